@@ -1,0 +1,100 @@
+//! Frames and call stacks: how far two stacks agree, and how stacks are ordered.
+#![tactic(auto)]
+
+ghost use Rattle.std.specs.Prelude.{◌≡◌, ◌<◌, ◌≤◌, length, slice_get, take};
+
+mod agreement;
+mod order;
+
+pub use agreement::agree;
+pub use order::compare;
+use std::marker::Model;
+
+#[cfg(test)]
+mod tests;
+
+/// A function, by its number, and the offset of an instruction in it.
+///
+/// Frames are ordered by function, and then by offset.
+#[derive(Clone, Copy, Debug, PartialEq, Eq, PartialOrd, Ord)]
+pub struct Frame {
+    /// The number of the function.
+    pub func: u32,
+    /// The offset of the instruction in the function, from 0.
+    pub at: u32,
+}
+
+/// A call stack of 1 to 32 frames, innermost first.
+///
+/// A contract sees it as the list of its frames. It has a fixed size and is copied like a number.
+/// Its order, that of `compare`, is the order of the lists: frame by frame, and a proper prefix comes first.
+#[derive(Clone, Copy, Debug)]
+pub struct Stack {
+    len: usize,
+    frames: [Frame; 32],
+}
+
+impl Model for Stack {
+    ghost use Rattle.std.specs.Prelude.{◌≡◌, ◌≤◌, ◌++◌, ◌-◌, List, length, take, drop, replicate};
+    ghost use Rattle.std.proofs.Common.{arith, take-append-drop, length-take-le};
+    ghost use Rattle.dim_stack.specs.declared.Frame.{Frame};
+
+    ghost Value = { List Frame };
+
+    ghost use Rattle.dim_stack.specs.Filled.{no_frame, IsFilled, filled_back, len_back};
+
+    ghost view = { λ s. take s.len s.frames };
+
+    ghost invariant = { λ s. (1 ≤ s.len) × IsFilled s.len s.frames };
+
+    ghost inverse = { λ fs. record { len = length fs; frames = fs ++ replicate (32 - length fs) no_frame } };
+
+    ghost inverse_ok = { λ s h i. record { len = len_back s.len s.frames h.1 i; frames = filled_back s.len s.frames h.1 i } };
+}
+
+impl Stack {
+    /// The stack of 1 to 32 frames, innermost first.
+    pub fn new(frames: &[Frame]) -> Stack
+        requires few { length frames.now ≤ 32 }
+        requires some { 1 ≤ length frames.now }
+        ensures { result ≡ frames.now }
+    {
+        let mut all = [Frame { func: 0, at: 0 }; 32];
+        let len = frames.len();
+        for i in 0..len {
+            all[i] = frames[i];
+        }
+        Stack { len, frames: all }
+    }
+
+    /// How many frames it has, from 1 to 32.
+    pub fn len(&self) -> u32
+        ensures len { result ≡ length self.now }
+        ensures few { result ≤ 32 }
+        ensures some { 1 ≤ result }
+    {
+        self.len as u32
+    }
+
+    /// The frame at position `i`, where 0 is the innermost. It needs `i` below the length.
+    pub fn frame(&self, i: u32) -> Frame
+        requires { i < length self.now }
+        ensures { slice_get self.now i ≡ Some result }
+    {
+        self.frames[i as usize]
+    }
+
+    /// The frames, innermost first.
+    pub fn as_slice(&self) -> &[Frame]
+        ensures { result.now ≡ self.now }
+    {
+        &self.frames[..self.len]
+    }
+
+    /// The first frames, at most `depth` of them.
+    fn top(&self, depth: usize) -> &[Frame]
+        ensures { result.now ≡ take depth self.now }
+    {
+        &self.frames[..self.len.min(depth)]
+    }
+}

@@ -1,0 +1,5 @@
+pub mod Cutting
+pub mod Digits
+pub mod NameLemmas
+pub mod ReadingLemmas
+pub mod Splitting

@@ -1,0 +1,15 @@
+//! What the formats share: the parts of a text, numbers, names and the sides of a frame.
+#![tactic(auto)]
+
+mod laws;
+mod names;
+mod numbers;
+mod parts;
+
+pub use laws::{byte_laws, cutting_laws};
+pub use names::{is_name, name};
+pub use numbers::{is_number, number, number64, signed};
+pub use parts::{Parts, frame_sides};
+
+#[cfg(test)]
+mod tests;

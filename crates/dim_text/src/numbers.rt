@@ -1,0 +1,101 @@
+//! Numbers in decimal digits. Each number has exactly one spelling.
+ghost use Rattle.std.specs.Prelude.{◌≡◌, ◌≤◌, ◌<◌, ◌^◌, ◌-◌, ℕ, ℤ, true, if◌then◌else◌, nat_le, option_and_then, Some, None, IfSome, IfNone, FitsSigned, pos};
+ghost use Rattle.std.specs.Int.{w64};
+ghost use Rattle.std.specs.Option.{option_map};
+ghost use Rattle.std.specs.Fmt.{decimal, signed_decimal};
+ghost use Rattle.dim_text.specs.Numerals.{are_digits, is_number, value_of, number_of, below_zero, signed_of};
+
+fn are_digits(word: &[u8]) -> bool
+    ensures { result ≡ are_digits word.now }
+{
+    word.iter().all(|byte| byte.is_ascii_digit())
+}
+
+/// Whether a word is a number: `0`, or decimal digits of which the first isn't 0. It may have any length.
+pub fn is_number(word: &[u8]) -> bool
+    ensures { result ≡ is_number word.now }
+{
+    let padded = word.len() > 1 && word[0] == b'0';
+    !word.is_empty() && !padded && are_digits(word)
+}
+
+// The value of digits, where it is at most max.
+fn value(digits: &[u8], max: u64) -> Option<u64>
+    requires { are_digits digits.now ≡ true }
+    ensures { result ≡ (if nat_le (value_of digits.now) max then Some (value_of digits.now) else None) }
+{
+    let mut value = 0u128;
+    for digit in digits {
+        value = value * 10 + u128::from(*digit - b'0');
+        if value > u128::from(max) {
+            return None;
+        }
+    }
+    Some(value as u64)
+}
+
+#[tactic(auto, unfolding(crate::specs::Numerals::number_of))]
+fn number_within(word: &[u8], max: u64) -> Option<u64>
+    ensures { result ≡ number_of max word.now }
+{
+    if !is_number(word) {
+        return None;
+    }
+    value(word, max)
+}
+
+/// The number that a word is, where it is at most `max`.
+#[tactic(auto, using(crate::proofs::Digits::found_given, crate::proofs::Digits::none_given))]
+pub fn number64(word: &[u8], max: u64) -> Option<u64>
+    ensures value { result ≡ number_of max word.now }
+    ensures found { IfSome result (λ n. (n ≤ max) × (word.now ≡ decimal n)) }
+    ensures none { IfNone result ((n : ℕ) → n ≤ max → word.now ≡ decimal n → ⊥) }
+{
+    number_within(word, max)
+}
+
+/// The number that a word is, where it is at most `max`.
+pub fn number(word: &[u8], max: u32) -> Option<u32>
+    ensures value { result ≡ number_of max word.now }
+    ensures found { IfSome result (λ n. (n ≤ max) × (word.now ≡ decimal n)) }
+    ensures none { IfNone result ((n : ℕ) → n ≤ max → word.now ≡ decimal n → ⊥) }
+{
+    let n = number64(word, u64::from(max))?;
+    Some(n as u32)
+}
+
+// The number below 0 that these digits spell behind a `-`.
+fn negative(digits: &[u8]) -> Option<i64>
+    ensures { result ≡ option_and_then below_zero (number_of (2 ^ 63) digits.now) }
+{
+    match number64(digits, 1 << 63)? {
+        0 => None,
+        n => Some(-1 - (n - 1) as i64),
+    }
+}
+
+fn positive(digits: &[u8]) -> Option<i64>
+    ensures { result ≡ option_map pos (number_of (2 ^ 63 - 1) digits.now) }
+{
+    Some(number64(digits, i64::MAX as u64)? as i64)
+}
+
+#[tactic(auto, unfolding(crate::specs::Numerals::signed_of))]
+fn signed_within(word: &[u8]) -> Option<i64>
+    ensures { result ≡ signed_of word.now }
+{
+    match word {
+        [b'-', digits @ ..] => negative(digits),
+        _ => positive(word),
+    }
+}
+
+/// The signed number of 64 bits that a word is: a number, or `-` before a number other than 0.
+#[tactic(auto, using(crate::proofs::Digits::signed_found_given, crate::proofs::Digits::signed_none_given))]
+pub fn signed(word: &[u8]) -> Option<i64>
+    ensures value { result ≡ signed_of word.now }
+    ensures found { IfSome result (λ z. word.now ≡ signed_decimal z) }
+    ensures none { IfNone result ((z : ℤ) → FitsSigned w64 z → word.now ≡ signed_decimal z → ⊥) }
+{
+    signed_within(word)
+}
