@@ -4,9 +4,13 @@
 ghost use Rattle.std.specs.Prelude.{◌≡◌, ◌<◌, ◌≤◌, length, slice_get, take};
 
 mod agreement;
+mod name_laws;
+mod names;
 mod order;
 
 pub use agreement::agree;
+pub use name_laws::{name_number_law, name_order_law, table_law};
+pub use names::Names;
 pub use order::compare;
 use std::marker::Model;
 

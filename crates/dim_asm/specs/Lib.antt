@@ -1,0 +1,12 @@
+pub mod Assembling
+pub mod Code
+pub mod Faults
+pub mod Judging
+pub mod Linking
+pub mod Source
+pub mod Table
+pub mod Seen
+pub mod Reader
+pub mod Grammar
+pub mod Spelling
+pub mod Tables

@@ -1,0 +1,15 @@
+//! The entries of a gate's history, and the tables that replay them: edges, modes, standing causes, cycles and stuck sets.
+#![tactic(auto)]
+
+mod births;
+mod command;
+mod entry;
+pub mod laws;
+mod tables;
+#[cfg(test)]
+mod tests;
+
+pub use births::Births;
+pub use command::{Command, Refusal, Reply};
+pub use entry::{Edge, Entry, MissWhy, Mode, Named, Why, same_entry};
+pub use tables::{Tables, is_member, without};

@@ -1,0 +1,40 @@
+-- What contracts see of a catalogue.
+use Rattle.std.specs.Prelude.{◌≡◌, ◌≢◌, ℕ, ◌≤◌, Bool, All, AllPairs, List, length, position, slice_get, Option, Some, None}
+use Rattle.std.specs.Cmp.Lexicographic.{pointwise}
+use Rattle.dim_stack.specs.declared.Frame.{Frame}
+use Rattle.dim_stack.specs.Order.{frame_eq}
+use Rattle.dim_signature.specs.Sig.{Sig, IsSig}
+use Rattle.dim_signature.specs.Sorted.{AreSorted}
+
+-- the signatures by their numbers, and room for signatures to be learnt
+pub record Contents : Type 0 where
+  pub sigs : List Sig
+  pub spare : ℕ
+
+-- what holds of the signatures of every catalogue
+pub record IsCatalogue (sigs : List Sig) : Type 0 where
+  pub few : length sigs ≤ 4096
+  pub in_range : All IsSig sigs
+  pub sorted : All (λ s. AreSorted s.stacks) sigs
+  pub distinct : AllPairs (λ s t. s.stacks ≢ t.stacks) sigs
+
+-- whether a signature has these stacks
+abbrev pub has_stacks : List (List Frame) → Sig → Bool
+has_stacks stacks s = pointwise (pointwise frame_eq) s.stacks stacks
+
+-- the number of the signature with these stacks, if there is one
+abbrev pub number_of : List Sig → List (List Frame) → Option ℕ
+number_of sigs stacks = position (has_stacks stacks) sigs
+
+-- the signature with that number has these stacks
+abbrev pub FoundLaw : Type 0
+FoundLaw = (sigs : List Sig) (stacks : List (List Frame)) (n : ℕ) → number_of sigs stacks ≡ Some n
+    → (s : Sig) × (slice_get sigs n ≡ Some s) × (s.stacks ≡ stacks)
+
+-- where there is no number, no signature has them
+abbrev pub MissingLaw : Type 0
+MissingLaw = (sigs : List Sig) (stacks : List (List Frame)) → number_of sigs stacks ≡ None → All (λ s. s.stacks ≢ stacks) sigs
+
+-- the stacks of each signature of a catalogue have its own number
+abbrev pub OwnLaw : Type 0
+OwnLaw = (sigs : List Sig) → IsCatalogue sigs → (n : ℕ) (s : Sig) → slice_get sigs n ≡ Some s → number_of sigs s.stacks ≡ Some n

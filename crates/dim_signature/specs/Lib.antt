@@ -1,0 +1,5 @@
+pub mod Catalogue
+pub mod Order
+pub mod Refusal
+pub mod Sig
+pub mod Sorted
