@@ -1,0 +1,15 @@
+pub mod Cover
+pub mod Least
+pub mod Finds
+pub mod Newest
+pub mod Named
+pub mod Groups
+pub mod Chosen
+pub mod Thin
+pub mod OneByOne
+pub mod Loop
+pub mod Lists
+pub mod Few
+pub mod Ranges
+pub mod Gathered
+pub mod Near
