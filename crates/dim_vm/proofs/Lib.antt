@@ -1,0 +1,13 @@
+mod Tops
+mod Callers
+mod Counts
+pub mod Leads
+mod Stacks
+mod Known
+mod Words
+pub mod Stands
+mod Asks
+mod Turns
+pub mod OwnModes
+pub mod OwnWalks
+mod OwnHolds

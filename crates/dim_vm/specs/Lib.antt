@@ -1,0 +1,15 @@
+pub mod Tops
+pub mod Trap
+pub mod Operands
+pub mod Frames
+pub mod Table
+pub mod Steps
+pub mod Own
+pub mod Door
+pub mod Configuration
+pub mod Fitting
+pub mod Moves
+pub mod Slice
+pub mod Turns
+pub mod Walks
+pub mod Laws

@@ -1,0 +1,128 @@
+-- What a thread does next: the table of the instructions.
+use Rattle.std.specs.Prelude.{ℕ, ◌+◌, nat_lt, Bool, false, if◌then◌else◌, List, [], ◌∷◌, length, slice_index_or, Option, Some, None, Result, Ok, Err, ℤ, pos}
+use Rattle.dim_base.specs.declared.Lid.{Lid}
+use Rattle.dim_asm.specs.declared.op.Op.{Op}
+use Rattle.dim_asm.specs.declared.op.Op.TheVariants as op
+use Rattle.dim_asm.specs.Code.{Code, op_at, locals_of, lock_count}
+use Rattle.dim_rag.specs.declared.entry.Why.{Why}
+use Rattle.dim_rag.specs.declared.entry.Why.TheVariants.{Done, Trapped}
+use Rattle.dim_vm.specs.declared.trap.Trap.{Trap}
+use Rattle.dim_vm.specs.declared.trap.Trap.TheVariants.{Over, Local, Relock, NotOwner, FellOff}
+use Rattle.dim_vm.specs.declared.context.Context.{Context}
+use Rattle.dim_vm.specs.Tops.{rest}
+use Rattle.dim_vm.specs.Trap.{number, ◌>>=◌}
+use Rattle.dim_vm.specs.Operands.{top, push, pop, duplicate, swap, calculate, sum, difference, is_less, is_equal, is_zero, lock_operand}
+use Rattle.dim_vm.specs.Frames.{entered, top_frame, at_offset, advanced, local, with_local, enter}
+
+-- at the first instruction of f, with n as the one operand
+abbrev pub begun : ℕ → ℤ → Context
+begun f n = record { frames = entered f ∷ []; operands = n ∷ []; said = 0; last = pos 0 }
+
+-- a plain instruction, with what it leaves; an ending; or an instruction about a lock, with the lock and what it leaves:
+-- at a Got, at a Free, and at a Took and a Miss
+pub data Next : Type 0 where
+  Plain : Context → Next
+  Ends : Why → Next
+  Wants : Lid → Context → Next
+  Frees : Lid → Context → Next
+  Tries : Lid → Context → Context → Next
+
+-- whether a lock is held, by the table of holds
+abbrev pub is_held : List Bool → ℕ → Bool
+is_held holds l = slice_index_or holds l false
+
+abbrev pub jump : ℕ → Context → Context
+jump k b = record b { frames = at_offset k b.frames }
+
+-- at the next instruction
+abbrev pub on : Context → Context
+on b = record b { frames = advanced b.frames }
+
+abbrev pub with_operands : List ℤ → Context → Context
+with_operands ns b = record b { operands = ns }
+
+-- without the newest operand
+abbrev pub dropped : Context → Context
+dropped b = with_operands (rest b.operands) b
+
+-- with one operand more
+abbrev pub pushed : ℤ → Context → Context
+pushed n b = with_operands (n ∷ b.operands) b
+
+-- on, with what an instruction leaves of the operands
+abbrev pub operated : Context → Result (List ℤ) Trap → Result Next Trap
+operated b r = r >>= λ ns. Ok (Plain (on (with_operands ns b)))
+
+-- whether the function has a local
+abbrev pub has_local : Code → ℕ → Context → Result (Unit {0}) Trap
+has_local p i b = if nat_lt i (locals_of p (top_frame b.frames).func) then Ok tt else Err Local
+
+abbrev pub get_local : Code → ℕ → Context → Result Next Trap
+get_local p i b = has_local p i b >>= λ u. operated b (push (local i b.frames) b.operands)
+
+abbrev pub put_local : Code → ℕ → Context → Result Next Trap
+put_local p i b = has_local p i b >>= λ u. top b.operands >>= λ n. Ok (Plain (on (record (dropped b) { frames = with_local i n b.frames })))
+
+abbrev pub call : ℕ → Context → Result Next Trap
+call f b = enter f b.frames >>= λ fs. Ok (Plain (record b { frames = fs }))
+
+abbrev pub say : Context → Result Next Trap
+say b = top b.operands >>= λ n. Ok (Plain (on (record b { operands = rest b.operands; said = b.said + 1; last = n })))
+
+abbrev pub jump_if_zero : ℕ → Context → Result Next Trap
+jump_if_zero k b = top b.operands >>= λ n. Ok (Plain (if is_zero n then jump k (dropped b) else on (dropped b)))
+
+-- the thread ends in its outermost call
+abbrev pub return : Context → Next
+return b = if nat_lt 1 (length b.frames) then Plain (on (record b { frames = rest b.frames })) else Ends Done
+
+abbrev pub wanted : List Bool → Lid → Context → Result Next Trap
+wanted holds l after = if is_held holds l.0 then Err Relock else Ok (Wants l after)
+
+abbrev pub freed : List Bool → Lid → Context → Result Next Trap
+freed holds l after = if is_held holds l.0 then Ok (Frees l after) else Err NotOwner
+
+abbrev pub tried : List Bool → Lid → Context → Result Next Trap
+tried holds l b = if is_held holds l.0 then Err Relock else (if nat_lt (length b.operands) 256 then Ok (Tries l (on (pushed (pos 1) b)) (on (pushed (pos 0) b))) else Err Over)
+
+-- the row of an instruction
+abbrev pub row : Code → List Bool → Context → Op → Result Next Trap
+row p holds b (op.Push n) = operated b (push n b.operands)
+row p holds b op.Pop = operated b (pop b.operands)
+row p holds b op.Dup = operated b (duplicate b.operands)
+row p holds b op.Swap = operated b (swap b.operands)
+row p holds b op.Add = operated b (calculate sum b.operands)
+row p holds b op.Sub = operated b (calculate difference b.operands)
+row p holds b op.Lt = operated b (calculate is_less b.operands)
+row p holds b op.Eq = operated b (calculate is_equal b.operands)
+row p holds b (op.Jmp k) = Ok (Plain (jump k b))
+row p holds b (op.Jz k) = jump_if_zero k b
+row p holds b (op.GetL i) = get_local p i b
+row p holds b (op.PutL i) = put_local p i b
+row p holds b (op.Call f) = call f b
+row p holds b op.Ret = Ok (return b)
+row p holds b (op.Lock l) = wanted holds l (on b)
+row p holds b op.LockX = lock_operand (lock_count p) b.operands >>= λ l. wanted holds l (on (dropped b))
+row p holds b (op.Unlock l) = freed holds l (on b)
+row p holds b op.UnlockX = lock_operand (lock_count p) b.operands >>= λ l. freed holds l (on (dropped b))
+row p holds b (op.TryLock l) = tried holds l b
+row p holds b op.Say = say b
+row p holds b op.Halt = Ok (Ends Done)
+
+-- the row of the instruction that is there
+abbrev pub row_at : Code → List Bool → Context → Option Op → Result Next Trap
+row_at p holds b None = Err FellOff
+row_at p holds b (Some o) = row p holds b o
+
+-- a trap ends the thread
+abbrev pub ended_by : Result Next Trap → Next
+ended_by (Ok n) = n
+ended_by (Err k) = Ends (Trapped (number k))
+
+-- the row of the instruction that a context is at
+abbrev pub row_here : Code → List Bool → Context → Result Next Trap
+row_here p holds b = row_at p holds b (op_at p (top_frame b.frames).func (top_frame b.frames).at)
+
+-- the next thing of a thread with units, by what it holds
+abbrev pub next : Code → List Bool → Context → Next
+next p holds b = ended_by (row_here p holds b)

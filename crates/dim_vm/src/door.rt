@@ -1,0 +1,38 @@
+//! The gate as one machine sees it.
+ghost use Rattle.std.specs.Prelude.{◌≡◌, ◌≤◌};
+ghost use Rattle.dim_vm.specs.Door.{Seen, MayAsk, IsReplyTo, told, IsStop};
+ghost use Rattle.dim_rag.specs.declared.command.Reply.TheVariants as reply;
+
+use dim_rag::{Command, Reply};
+
+/// The gate as one machine sees it.
+pub trait Door {
+    /// The thread, the number of locks, the thread's own entries, the last reply, for how many entries there is room, and the count of asks.
+    ghost seen: { Self → Seen };
+
+    /// The thread can't go on, by what was last seen of the history.
+    ghost stopped: { Self → Type 0 };
+
+    /// Not all causes of the thread's latest Yield stand, by what was last seen of the history.
+    ghost woken: { Self → Type 0 };
+
+    /// The second may come of the first by asks. What else stands behind a door and what asks do to it, each door says for itself.
+    ghost reaches: { Self → Self → Type 0 };
+
+    /// Asks the gate.
+    fn ask(&mut self, cmd: Command) -> Reply
+        requires room { 1 ≤ (seen self.old).left }
+        requires may { MayAsk (seen self.old) cmd }
+        ensures reply { IsReplyTo (seen self.old) cmd result }
+        ensures seen { seen self.new ≡ told (seen self.old) cmd result }
+        ensures stopped { IsStop result → stopped self.new }
+        ensures woken { result ≡ reply.Woken → woken self.new }
+        ensures still_woken { result ≡ reply.Ended → woken self.old → woken self.new }
+        ensures reaches { reaches self.old self.new };
+
+    /// No ask leads nowhere else.
+    ghost reaches_itself: { (d : Self) → reaches d d };
+
+    /// Asks after asks are asks.
+    ghost reaches_on: { (a b c : Self) → reaches a b → reaches b c → reaches a c };
+}
