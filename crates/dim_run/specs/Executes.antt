@@ -1,0 +1,26 @@
+-- Which lists of entries execute a program.
+use Rattle.std.specs.Prelude.{◌≡◌, ℕ, ◌<◌, ◌⊎◌, List, [], IsSome}
+use Rattle.dim_asm.specs.Code.{Code, thread_count, lock_count}
+use Rattle.dim_rag.specs.declared.entry.Entry.{Entry}
+use Rattle.dim_rag.specs.declared.entry.Mode.TheVariants.{Ended}
+use Rattle.dim_rag.specs.History.{past, mode}
+use Rattle.dim_rag.specs.Edges.{standing}
+use Rattle.dim_gate.specs.Legal.{Legal}
+use Rattle.dim_vm.specs.Walks.{Walks}
+use Rattle.dim_run.specs.Rules.{Rules, gate_of}
+use Rattle.dim_run.specs.Door.{IsWaiting, IsStopped}
+
+-- t has ended
+abbrev pub HasEnded : ℕ → List Entry → Type 0
+HasEnded t h = (place : ℕ) × (mode t h ≡ Ended place)
+
+-- Each thread has ended, or is allowed on a lock that some thread holds, or yields with causes that all stand. Where no signature was loaded, none yields.
+pub record IsSettled (r : Rules) (h : List Entry) : Type 0 where
+  pub settled : (t : ℕ) → t < thread_count r.program → HasEnded t h ⊎ IsStopped (thread_count r.program) (lock_count r.program) t h
+  pub unyielding : r.loaded ≡ [] → (t : ℕ) → t < thread_count r.program → HasEnded t h ⊎ IsWaiting (thread_count r.program) t h
+
+-- the entries, oldest first, execute the program: they are a legal history, each thread's own entries are the moves of its machine, and they are settled
+pub record Executes (r : Rules) (entries : List Entry) : Type 0 where
+  pub legal : Legal (gate_of r) (past entries)
+  pub walks : Walks r.program r.fuel (past entries)
+  pub settled : IsSettled r (past entries)

@@ -1,0 +1,147 @@
+//! The machines of a run, and the gate that they ask.
+ghost use Rattle.std.specs.Prelude.{◌≡◌, ◌≤◌, ◌<◌, ◌+◌, ◌*◌, ◌^◌, length, IfOk, OnOk};
+ghost use Rattle.dim_asm.specs.Code.{thread_count};
+ghost use Rattle.dim_rag.specs.History.{past};
+ghost use Rattle.dim_rag.specs.Fits.{Fits, AreInRange};
+ghost use Rattle.dim_gate.specs.Gate.{constants};
+ghost use Rattle.dim_gate.specs.Legal.{Legal};
+ghost use Rattle.dim_run.specs.Rules.{gate_of};
+ghost use Rattle.dim_run.specs.Played.{machines_at, starts};
+ghost use Rattle.dim_run.specs.Settings.{AreSettings};
+ghost use Rattle.dim_run.specs.Crew.{rules_of, first_gate, IsMachineOf, HasSliced, InStep, Advances, Turns, room_in};
+
+use crate::Settings;
+use crate::door::GateDoor;
+use dim_asm::Program;
+use dim_base::{OutOfMemory, Tid};
+use dim_gate::GateState;
+use dim_signature::Catalogue;
+use dim_vm::Machine;
+use std::alloc::Global;
+
+/// A run learns at most so many signatures.
+const LEARNS: u32 = 16;
+
+/// The machines of the threads, and the door at which they ask the gate.
+#[derive(Drop)]
+pub struct Crew {
+    pub door: GateDoor,
+    pub machines: Vec<Machine>,
+}
+
+impl Crew {
+    /// The machines of all threads at their start, and a gate whose history is empty.
+    pub fn new(
+        alloc: Global,
+        program: &Program,
+        loaded: Catalogue,
+        s: &Settings,
+    ) -> Result<Crew, OutOfMemory>
+        requires settings { AreSettings s.now }
+        requires few { length loaded.sigs ≤ 4080 }
+        ensures gate { IfOk result (λ crew. crew.door.gate ≡ first_gate (gate_of (rules_of program.now loaded.sigs s.now))) }
+        ensures machines { IfOk result (λ crew. crew.machines.items ≡ starts (rules_of program.now loaded.sigs s.now) (thread_count program.now)) }
+    {
+        let machines = machines_of(alloc, program, s.fuel)?;
+        let gate = GateState::new(
+            alloc,
+            program.threads(),
+            program.locks(),
+            loaded,
+            s.depth,
+            LEARNS,
+        )?;
+        Ok(Crew {
+            door: GateDoor::new(gate, Tid(0)),
+            machines,
+        })
+    }
+
+    /// Makes room for the entries of a round.
+    pub fn reserve(&mut self, program: &Program, s: &Settings) -> Result<(), OutOfMemory>
+        requires settings { AreSettings s.now }
+        requires few { length self.old.door.gate.entries ≤ 262176 }
+        ensures ok { OnOk result (thread_count program.now * (s.now.quantum + 1) ≤ self.new.door.gate.spare) }
+        ensures same { (constants self.new.door.gate ≡ constants self.old.door.gate) × (self.new.door.gate.entries ≡ self.old.door.gate.entries) × (self.new.machines.items ≡ self.old.machines.items) }
+    {
+        self.door.reserve(program.threads() * (s.quantum + 1))
+    }
+
+    /// Thread t takes a slice. It answers the moves made.
+    fn slice(&mut self, program: &Program, s: &Settings, t: u32) -> u32
+        requires in_step { InStep (rules_of program.now self.old.door.gate.loaded s.now) self.old.door.gate self.old.machines.items }
+        requires low { t < thread_count program.now }
+        requires some { 1 ≤ s.now.quantum }
+        requires room { s.now.quantum + 1 ≤ self.old.door.gate.spare }
+        ensures advances { Advances (rules_of program.now self.old.door.gate.loaded s.now) t result self.old.door.gate self.new.door.gate self.old.machines.items self.new.machines.items }
+        ensures spare { self.old.door.gate.spare ≤ self.new.door.gate.spare + result + 1 }
+    {
+        take_slice(
+            &mut self.machines[t as usize],
+            &mut self.door,
+            program,
+            s,
+            Tid(t),
+        )
+    }
+
+    /// Each thread takes one slice, in the order of their numbers. It answers the moves made.
+    pub fn round(&mut self, program: &Program, s: &Settings) -> u32
+        requires in_step { InStep (rules_of program.now self.old.door.gate.loaded s.now) self.old.door.gate self.old.machines.items }
+        requires some { 1 ≤ s.now.quantum }
+        requires room { thread_count program.now * (s.now.quantum + 1) ≤ self.old.door.gate.spare }
+        requires few { room_in self.old.machines.items < 2 ^ 32 }
+        ensures turns { Turns (rules_of program.now self.old.door.gate.loaded s.now) (thread_count program.now) result self.old.door.gate self.new.door.gate self.old.machines.items self.new.machines.items }
+    {
+        let mut moves = 0;
+        for t in 0..program.threads() {
+            moves += self.slice(program, s, t);
+        }
+        moves
+    }
+
+    /// The gate, once all rounds are over. Its history is legal.
+    pub fn into_gate(self) -> GateState
+        ensures gate { result ≡ self.door.gate }
+        ensures legal { Legal (constants self.door.gate) (past self.door.gate.entries) }
+        ensures fits { Fits (past self.door.gate.entries) }
+        ensures in_range { AreInRange self.door.gate.threads self.door.gate.locks (past self.door.gate.entries) }
+    {
+        self.door.is_sound();
+        self.door.into_gate()
+    }
+}
+
+/// The machine of each thread at its start.
+fn machines_of(alloc: Global, program: &Program, fuel: u32) -> Result<Vec<Machine>, OutOfMemory>
+    ensures { IfOk result (λ machines. machines.items ≡ machines_at program.now fuel (thread_count program.now)) }
+{
+    let mut machines = Vec::new(alloc);
+    for t in 0..program.threads() {
+        machines.push(Machine::new(program, Tid(t), fuel))?;
+    }
+    Ok(machines)
+}
+
+/// Thread t's machine takes a slice at the gate's door. It answers the moves made.
+fn take_slice(
+    machine: &mut Machine,
+    door: &mut GateDoor,
+    program: &Program,
+    s: &Settings,
+    t: Tid,
+) -> u32
+    requires constants { constants door.old.gate ≡ gate_of (rules_of program.now door.old.gate.loaded s.now) }
+    requires machine { IsMachineOf (rules_of program.now door.old.gate.loaded s.now) (past door.old.gate.entries) t.0 machine.old }
+    requires low { t.0 < thread_count program.now }
+    requires some { 1 ≤ s.now.quantum }
+    requires room { s.now.quantum + 1 ≤ door.old.gate.spare }
+    ensures sliced { HasSliced (rules_of program.now door.old.gate.loaded s.now) s.now.quantum t.0 result (past door.old.gate.entries) (past door.new.gate.entries) machine.old machine.new }
+    ensures constants { constants door.new.gate ≡ constants door.old.gate }
+    ensures spare { door.old.gate.spare ≤ door.new.gate.spare + result + 1 }
+{
+    door.turn_to(t);
+    let slice = machine.slice(program, door, s.quantum);
+    door.is_sound();
+    slice.moves
+}
