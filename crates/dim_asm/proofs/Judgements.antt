@@ -95,7 +95,7 @@ Spelled word (Counts c) = (n : ℕ) → op_words (counted c n) ≡ word ∷ deci
 Spelled word (Names n) = word ≡ naming_word n
 
 rows_spelled : AllByRecursion (λ (row : List ℕ × Mnemonic). Spelled row.0 row.1) rows
-rows_spelled = (refl, ((refl, tt), (refl, (refl, tt))))
+rows_spelled = (refl, ((refl, tt), ((refl, tt), ((refl, tt), ((refl, tt), ((refl, tt), ((refl, tt), ((refl, tt), ((λ n. refl), ((λ n. refl), ((λ n. refl), ((λ n. refl), (refl, ((refl, tt), (refl, ((refl, tt), (refl, ((refl, tt), (refl, ((refl, tt), ((refl, tt), tt)))))))))))))))))))))
 
 looked_up : (word : List ℕ) (table : List (List ℕ × Mnemonic)) (m : Mnemonic) → AllByRecursion (λ (row : List ℕ × Mnemonic). Spelled row.0 row.1) table
     → option_map (λ row. row.1) (find (λ row. bytes_eq word row.0) table) ≡ Some m → Spelled word m

@@ -6,3 +6,4 @@ pub mod Linked
 pub mod Judgements
 pub mod Fitting
 pub mod Endings
+pub mod BoundLemmas

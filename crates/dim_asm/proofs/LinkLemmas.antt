@@ -39,18 +39,18 @@ pub each_line-none : {A B : Type 0} (f : A → Result B AsmKind) (n : ℕ) (done
 unfolding each_line
 each_line-none f n done = ap Ok (append-nil done)
 
-pub functions-step : (t : Tables) (number n : ℕ) (f : DraftFunction) (fs : List DraftFunction) (g : Function) (done : List Function) → link_function t number n f ≡ Ok g
-    → behind done (link_functions t number n (f ∷ fs)) ≡ behind (done ++ g ∷ []) (link_functions t (number + 1) (n + length f.drafts + 2) fs)
+pub functions-step : (t : Tables) (n : ℕ) (f : DraftFunction) (fs : List DraftFunction) (g : Function) (done : List Function) → link_function t n f ≡ Ok g
+    → behind done (link_functions t n (f ∷ fs)) ≡ behind (done ++ g ∷ []) (link_functions t (n + length f.drafts + 2) fs)
 unfolding link_functions
-functions-step t number n f fs g done e =
-    ap (λ r. behind done (r >>= λ z. link_functions t (number + 1) (n + length f.drafts + 2) fs >>= λ ys. Ok (z ∷ ys))) e
-    ∙ behind-push done g (link_functions t (number + 1) (n + length f.drafts + 2) fs)
+functions-step t n f fs g done e =
+    ap (λ r. behind done (r >>= λ z. link_functions t (n + length f.drafts + 2) fs >>= λ ys. Ok (z ∷ ys))) e
+    ∙ behind-push done g (link_functions t (n + length f.drafts + 2) fs)
 
-pub functions-fails : (t : Tables) (number n : ℕ) (f : DraftFunction) (fs : List DraftFunction) (done : List Function) (o : Option AsmFault) → Fails o (link_function t number n f)
-    → Fails o (behind done (link_functions t number n (f ∷ fs)))
+pub functions-fails : (t : Tables) (n : ℕ) (f : DraftFunction) (fs : List DraftFunction) (done : List Function) (o : Option AsmFault) → Fails o (link_function t n f)
+    → Fails o (behind done (link_functions t n (f ∷ fs)))
 unfolding link_functions
-functions-fails t number n f fs done o h = Fails-bind o _ _ (Fails-bind o _ _ h)
+functions-fails t n f fs done o h = Fails-bind o _ _ (Fails-bind o _ _ h)
 
-pub functions-none : (t : Tables) (number n : ℕ) (done : List Function) → behind done (link_functions t number n []) ≡ Ok done
+pub functions-none : (t : Tables) (n : ℕ) (done : List Function) → behind done (link_functions t n []) ≡ Ok done
 unfolding link_functions
-functions-none t number n done = ap Ok (append-nil done)
+functions-none t n done = ap Ok (append-nil done)

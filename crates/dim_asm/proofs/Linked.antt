@@ -102,10 +102,10 @@ pub record Keeps (t : Tables) (f : DraftFunction) (g : Function) : Type 0 where
   pub name : g.name ≡ f.name
   pub size : length g.ops ≡ length f.drafts
 
-function_sound : (t : Tables) (number n : ℕ) (f : DraftFunction) (g : Function) → IsWhole f → link_function t number n f ≡ Ok g → Keeps t f g
+function_sound : (t : Tables) (n : ℕ) (f : DraftFunction) (g : Function) → IsWhole f → link_function t n f ≡ Ok g → Keeps t f g
 unfolding link_function
-function_sound t number n f g h e =
-    let made = λ (ops : List Op). let made : Function = record { name = f.name; locals = f.locals; number = number; ops = ops } in made in
+function_sound t n f g h e =
+    let made = λ (ops : List Op). let made : Function = record { name = f.name; locals = f.locals; number = 0; ops = ops } in made in
     let parts = bind_ok (each_line (link_draft t (length f.drafts)) (n + 1) f.drafts) (λ ops. Ok (made ops)) g e in
     let ops = lines_sound (link_draft t (length f.drafts)) IsDraft (IsSound t (length f.drafts)) (draft_sound t (length f.drafts)) (n + 1) f.drafts parts.0 h.0.drafts parts.1 in
     let same : made parts.0 ≡ g = cc (parts.2) in
@@ -127,15 +127,15 @@ pub record KeepAll (t : Tables) (fs : List DraftFunction) (gs : List Function) :
   pub names : func_names gs ≡ map (λ f. f.name) fs
   pub count : op_count gs ≡ draft_count fs
 
-functions_sound : (t : Tables) (number n : ℕ) (fs : List DraftFunction) (gs : List Function) → AllByRecursion IsWhole fs → link_functions t number n fs ≡ Ok gs → KeepAll t fs gs
+functions_sound : (t : Tables) (n : ℕ) (fs : List DraftFunction) (gs : List Function) → AllByRecursion IsWhole fs → link_functions t n fs ≡ Ok gs → KeepAll t fs gs
 unfolding link_functions
-functions_sound t number n [] gs h e = let none : [] ≡ gs = cc in subst (KeepAll t []) none (record { sound = tt; names = refl; count = refl })
-functions_sound t number n (f ∷ fs) gs h e =
-    let more = λ (g : Function). link_functions t (number + 1) (n + length f.drafts + 2) fs >>= λ rest. Ok (g ∷ rest) in
-    let first = bind_ok (link_function t number n f) more gs e in
-    let others = bind_ok (link_functions t (number + 1) (n + length f.drafts + 2) fs) (λ rest. Ok (first.0 ∷ rest)) gs first.2 in
-    let one = function_sound t number n f first.0 h.0 first.1 in
-    let rest = functions_sound t (number + 1) (n + length f.drafts + 2) fs others.0 h.1 others.1 in
+functions_sound t n [] gs h e = let none : [] ≡ gs = cc in subst (KeepAll t []) none (record { sound = tt; names = refl; count = refl })
+functions_sound t n (f ∷ fs) gs h e =
+    let more = λ (g : Function). link_functions t (n + length f.drafts + 2) fs >>= λ rest. Ok (g ∷ rest) in
+    let first = bind_ok (link_function t n f) more gs e in
+    let others = bind_ok (link_functions t (n + length f.drafts + 2) fs) (λ rest. Ok (first.0 ∷ rest)) gs first.2 in
+    let one = function_sound t n f first.0 h.0 first.1 in
+    let rest = functions_sound t (n + length f.drafts + 2) fs others.0 h.1 others.1 in
     let whole : first.0 ∷ others.0 ≡ gs = cc (others.2) in
     subst (KeepAll t (f ∷ fs)) whole (record {
       sound = (one.sound, rest.sound);
@@ -167,13 +167,13 @@ sound_program s gs rs h funcs starts same =
 
 -- what is linked, by its parts
 pub link_parts : (s : Source) (p : Code) → link s ≡ Ok p
-    → (gs : List Function) × (rs : List Start) × (link_functions (tables_of s) 0 (first_function s) s.funcs ≡ Ok gs) × (each_line (link_start (tables_of s)) (first_thread s) s.threads ≡ Ok rs) × (p ≡ record { locks = s.locks; funcs = gs; threads = rs })
+    → (gs : List Function) × (rs : List Start) × (link_functions (tables_of s) (first_function s) s.funcs ≡ Ok gs) × (each_line (link_start (tables_of s)) (first_thread s) s.threads ≡ Ok rs) × (p ≡ record { locks = s.locks; funcs = gs; threads = rs })
 unfolding link
 link_parts s p e =
     let t = tables_of s in
     let threads = each_line (link_start t) (first_thread s) s.threads in
     let made = λ (funcs : List Function) (starts : List Start). let made : Code = record { locks = s.locks; funcs = funcs; threads = starts } in made in
-    let first = bind_ok (link_functions t 0 (first_function s) s.funcs) (λ funcs. threads >>= λ starts. Ok (made funcs starts)) p e in
+    let first = bind_ok (link_functions t (first_function s) s.funcs) (λ funcs. threads >>= λ starts. Ok (made funcs starts)) p e in
     let second = bind_ok threads (λ starts. Ok (made first.0 starts)) p first.2 in
     (first.0, second.0, first.1, second.1, cc (second.2))
 
@@ -182,10 +182,10 @@ pub linked : (s : Source) (p : Code) → IsSource s → link s ≡ Ok p → IsPr
 linked s p h e = by_parts s p h (link_parts s p e)
   where
     by_parts : (s : Source) (p : Code) → IsSource s
-        → (gs : List Function) × (rs : List Start) × (link_functions (tables_of s) 0 (first_function s) s.funcs ≡ Ok gs) × (each_line (link_start (tables_of s)) (first_thread s) s.threads ≡ Ok rs) × (p ≡ record { locks = s.locks; funcs = gs; threads = rs })
+        → (gs : List Function) × (rs : List Start) × (link_functions (tables_of s) (first_function s) s.funcs ≡ Ok gs) × (each_line (link_start (tables_of s)) (first_thread s) s.threads ≡ Ok rs) × (p ≡ record { locks = s.locks; funcs = gs; threads = rs })
         → IsProgram p
     by_parts s p h (gs, rs, f, r, same) =
         let t = tables_of s in
-        let funcs = functions_sound t 0 (first_function s) s.funcs gs (both s.funcs h.front.functions h.whole.1) f in
+        let funcs = functions_sound t (first_function s) s.funcs gs (both s.funcs h.front.functions h.whole.1) f in
         let starts = lines_sound (link_start t) IsStart (λ r. r.func < length t.names) (λ x y _ k. start_sound t x y k) (first_thread s) s.threads rs h.front.starts r in
         subst IsProgram (sym same) (sound_program s gs rs h funcs starts.0 starts.1)

@@ -1,5 +1,6 @@
 pub mod Assembling
 pub mod Code
+pub mod Bound
 pub mod Faults
 pub mod Judging
 pub mod Linking

@@ -54,18 +54,18 @@ each_line link n (x ∷ xs) = do
   ys ← each_line link (n + 1) xs
   Ok (y ∷ ys)
 
--- the function of this number, which begins in line n
-unfoldable pub link_function : Tables → ℕ → ℕ → DraftFunction → Result Function AsmFault
-link_function t number n f = do
+-- a function, which begins in line n; it has the number 0 until the program is bound to a table of names
+unfoldable pub link_function : Tables → ℕ → DraftFunction → Result Function AsmFault
+link_function t n f = do
   ops ← each_line (link_draft t (length f.drafts)) (n + 1) f.drafts
-  Ok (record { name = f.name; locals = f.locals; number = number; ops = ops })
+  Ok (record { name = f.name; locals = f.locals; number = 0; ops = ops })
 
--- the functions from this number on, where the first begins in line n
-unfoldable pub link_functions : Tables → ℕ → ℕ → List DraftFunction → Result (List Function) AsmFault
-link_functions t number n [] = Ok []
-link_functions t number n (f ∷ funcs) = do
-  func ← link_function t number n f
-  rest ← link_functions t (number + 1) (n + length f.drafts + 2) funcs
+-- the functions, where the first begins in line n
+unfoldable pub link_functions : Tables → ℕ → List DraftFunction → Result (List Function) AsmFault
+link_functions t n [] = Ok []
+link_functions t n (f ∷ funcs) = do
+  func ← link_function t n f
+  rest ← link_functions t (n + length f.drafts + 2) funcs
   Ok (func ∷ rest)
 
 -- the lines of the first function and of the first thread
@@ -78,9 +78,9 @@ first_thread s = first_function s + draft_count s.funcs + 2 * length s.funcs
 abbrev pub tables_of : Source → Tables
 tables_of s = record { locks = s.locks; names = names_of s }
 
--- the program that a source says, or the first fault of the second pass
+-- the program that a source says, bound to no table yet, or the first fault of the second pass
 unfoldable pub link : Source → Result Code AsmFault
 link s = do
-  funcs ← link_functions (tables_of s) 0 (first_function s) s.funcs
+  funcs ← link_functions (tables_of s) (first_function s) s.funcs
   threads ← each_line (link_start (tables_of s)) (first_thread s) s.threads
   Ok (record { locks = s.locks; funcs = funcs; threads = threads })

@@ -8,15 +8,32 @@ use Rattle.dim_asm.specs.declared.mnemonic.Counting.{Counting}
 use Rattle.dim_asm.specs.declared.mnemonic.Counting.TheVariants as counting
 use Rattle.dim_asm.specs.declared.mnemonic.Naming.TheVariants as naming
 use Rattle.dim_asm.specs.declared.mnemonic.Mnemonic.{Mnemonic}
-use Rattle.dim_asm.specs.declared.mnemonic.Mnemonic.TheVariants.{Bare, Names}
+use Rattle.dim_asm.specs.declared.mnemonic.Mnemonic.TheVariants.{Bare, Push, Counts, Names}
 
 -- each word, and what it makes by the kind of its argument
 abbrev pub rows : List (List ℕ × Mnemonic)
 rows =
-    (codes "CALL", Names naming.Call)
+    (codes "PUSH", Push)
+    ∷ (codes "POP", Bare op.Pop)
+    ∷ (codes "DUP", Bare op.Dup)
+    ∷ (codes "SWAP", Bare op.Swap)
+    ∷ (codes "ADD", Bare op.Add)
+    ∷ (codes "SUB", Bare op.Sub)
+    ∷ (codes "LT", Bare op.Lt)
+    ∷ (codes "EQ", Bare op.Eq)
+    ∷ (codes "JMP", Counts counting.Jmp)
+    ∷ (codes "JZ", Counts counting.Jz)
+    ∷ (codes "GETL", Counts counting.GetL)
+    ∷ (codes "PUTL", Counts counting.PutL)
+    ∷ (codes "CALL", Names naming.Call)
     ∷ (codes "RET", Bare op.Ret)
     ∷ (codes "LOCK", Names naming.Lock)
+    ∷ (codes "LOCKX", Bare op.LockX)
     ∷ (codes "UNLOCK", Names naming.Unlock)
+    ∷ (codes "UNLOCKX", Bare op.UnlockX)
+    ∷ (codes "TRYLOCK", Names naming.TryLock)
+    ∷ (codes "SAY", Bare op.Say)
+    ∷ (codes "HALT", Bare op.Halt)
     ∷ []
 
 unfoldable pub mnemonic_of : List ℕ → Option Mnemonic

@@ -2,6 +2,7 @@
 ghost use Rattle.std.specs.Prelude.{◌≡◌, IfOk};
 ghost use Rattle.dim_text.specs.Reading.{Gives};
 ghost use Rattle.dim_asm.specs.Faults.{fault_of};
+ghost use Rattle.dim_asm.specs.Bound.{own_names, IsBound};
 ghost use Rattle.dim_asm.specs.Judging.{source_of};
 ghost use Rattle.dim_asm.specs.Assembling.{program_of};
 ghost use Rattle.dim_asm.specs.Reader.{read, IsCounted};
@@ -32,10 +33,14 @@ fn read(alloc: Global, bytes: &[u8]) -> Result<Reader<'_>, AsmError>
     Ok(reader)
 }
 
-/// The program that a text spells, or the first fault of the text.
+/// The program that a text spells, bound to the table of its own names, or the first fault of the text.
 pub fn assemble(alloc: Global, bytes: &[u8]) -> Result<Program, AsmError>
-    ensures { Gives fault_of (λ p. p) result (program_of bytes.now) }
+    ensures program { Gives fault_of (λ p. p) result (program_of bytes.now) }
+    ensures bound { IfOk result (λ p. IsBound (own_names p) p) }
 {
     let reader = read(alloc, bytes)?;
-    link(alloc, reader)
+    let mut program = link(alloc, reader)?;
+    let names = program.names(alloc)?;
+    program.bind(&names);
+    Ok(program)
 }

@@ -2,6 +2,7 @@
 #![tactic(auto)]
 
 mod assembler;
+mod binding;
 mod draft;
 mod fault;
 mod linker;
@@ -14,6 +15,7 @@ mod statement;
 mod symbols;
 
 pub use assembler::assemble;
+pub use binding::bind_law;
 pub use fault::{AsmError, AsmFault, AsmKind};
 pub use op::Op;
 pub use program::Program;

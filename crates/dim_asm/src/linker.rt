@@ -84,24 +84,23 @@ impl<'t> Tables<'t> {
         Ok(ops)
     }
 
-    // The function of this number, which begins in this line.
+    // A function, which begins in this line. It's bound to no table yet.
     #[tactic(auto, unfolding(crate::specs::Linking::link_function))]
     fn function(
         &self,
         alloc: Global,
-        number: u32,
         func: &DraftFunction,
         first: u32,
     ) -> Result<Function, AsmError>
         requires { first + length func.now.drafts + 1 < 2 ^ 32 }
-        ensures { Gives fault_of (λ f. f) result (link_function (seen self.now) number first func.now) }
+        ensures { Gives fault_of (λ f. f) result (link_function (seen self.now) first func.now) }
     {
         let ops = self.drafts(alloc, &func.drafts, first + 1)?;
         let name = Word::of(alloc, func.name)?;
         Ok(Function {
             name,
             locals: func.locals,
-            number,
+            number: 0,
             ops,
         })
     }
@@ -113,15 +112,13 @@ impl<'t> Tables<'t> {
         drafts: &[DraftFunction],
         first: u32,
     ) -> Result<Vec<Function>, AsmError>
-        requires lines { first + draft_count drafts.now + 2 * length drafts.now < 2 ^ 32 }
-        requires few { length drafts.now ≤ 256 }
-        ensures { Gives fault_of (λ funcs. funcs.items) result (link_functions (seen self.now) 0 first drafts.now) }
+        requires { first + draft_count drafts.now + 2 * length drafts.now < 2 ^ 32 }
+        ensures { Gives fault_of (λ funcs. funcs.items) result (link_functions (seen self.now) first drafts.now) }
     {
         let mut funcs = Vec::new(alloc);
         let mut line = first;
         for draft in drafts {
-            let number = funcs.len() as u32;
-            let func = self.function(alloc, number, draft, line)?;
+            let func = self.function(alloc, draft, line)?;
             funcs.push(func)?;
             line += draft.len() + 2;
         }
@@ -149,7 +146,7 @@ impl<'t> Tables<'t> {
     }
 }
 
-/// The program that was read.
+/// The program that was read. It's bound to no table yet: each function has the number 0.
 #[tactic(auto, unfolding(crate::specs::Linking::link))]
 pub fn link(alloc: Global, reader: Reader) -> Result<Program, AsmError>
     requires counted { IsCounted reader }

@@ -60,11 +60,28 @@ impl Counting {
 }
 
 // Each instruction word, and what it makes.
-const ROWS: [(&[u8], Mnemonic); 4] = [
+const ROWS: [(&[u8], Mnemonic); 21] = [
+    (b"PUSH", Mnemonic::Push),
+    (b"POP", Mnemonic::Bare(Op::Pop)),
+    (b"DUP", Mnemonic::Bare(Op::Dup)),
+    (b"SWAP", Mnemonic::Bare(Op::Swap)),
+    (b"ADD", Mnemonic::Bare(Op::Add)),
+    (b"SUB", Mnemonic::Bare(Op::Sub)),
+    (b"LT", Mnemonic::Bare(Op::Lt)),
+    (b"EQ", Mnemonic::Bare(Op::Eq)),
+    (b"JMP", Mnemonic::Counts(Counting::Jmp)),
+    (b"JZ", Mnemonic::Counts(Counting::Jz)),
+    (b"GETL", Mnemonic::Counts(Counting::GetL)),
+    (b"PUTL", Mnemonic::Counts(Counting::PutL)),
     (b"CALL", Mnemonic::Names(Naming::Call)),
     (b"RET", Mnemonic::Bare(Op::Ret)),
     (b"LOCK", Mnemonic::Names(Naming::Lock)),
+    (b"LOCKX", Mnemonic::Bare(Op::LockX)),
     (b"UNLOCK", Mnemonic::Names(Naming::Unlock)),
+    (b"UNLOCKX", Mnemonic::Bare(Op::UnlockX)),
+    (b"TRYLOCK", Mnemonic::Names(Naming::TryLock)),
+    (b"SAY", Mnemonic::Bare(Op::Say)),
+    (b"HALT", Mnemonic::Bare(Op::Halt)),
 ];
 
 /// What a word makes, if it's an instruction word.

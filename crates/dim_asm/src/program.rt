@@ -131,7 +131,7 @@ impl Program {
         }
     }
 
-    /// A function's number in the table of names.
+    /// A function's number in the table of names to which the program is bound.
     pub fn number(&self, f: u32) -> u32
         ensures { result ≡ number_of self.now f }
     {

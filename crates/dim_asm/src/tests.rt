@@ -1,5 +1,10 @@
+//! Small programs, and each kind of fault.
+ghost use Rattle.std.specs.Prelude.{IfOk};
+ghost use Rattle.dim_asm.specs.Bound.{KnowsFuncs};
+
 use super::*;
-use dim_base::{Lid, Tid};
+use dim_base::{Lid, OutOfMemory, Tid};
+use dim_stack::Names;
 use std::alloc::{AllocError, Global};
 use std::fmt::Write;
 use std::test::Fail;
@@ -69,6 +74,122 @@ fn a_call_may_go_forward(rt: HostRuntime) -> Result<(), Fail> {
     assert_eq!(rt; p.op(0, 0), Some(Op::Call { f: 1 }));
     assert_eq!(rt; p.op(0, 1), Some(Op::Lock { l: Lid(0) }));
     assert_eq!(rt; p.locals(1), 2);
+    Ok(())
+}
+
+// A program of one function, of two instructions of which this is the first.
+fn with_op(alloc: Global, op: &str) -> Result<String, AllocError> {
+    format!(in alloc; "dim program 1\nlock a\nfunc f 1\n{op}\nRET\nend\nthread f 0\nend program\n")
+}
+
+// The first instruction of the first function of a text.
+fn first_op(alloc: Global, text: &str) -> Option<Op> {
+    match assemble(alloc, text.as_bytes()) {
+        Ok(p) => p.op(0, 0),
+        Err(_) => None,
+    }
+}
+
+#[test]
+fn each_word_is_an_instruction(rt: HostRuntime) -> Result<(), Fail> {
+    let rows: [(&str, Op); 21] = [
+        ("PUSH -7", Op::Push { n: -7 }),
+        ("POP", Op::Pop),
+        ("DUP", Op::Dup),
+        ("SWAP", Op::Swap),
+        ("ADD", Op::Add),
+        ("SUB", Op::Sub),
+        ("LT", Op::Lt),
+        ("EQ", Op::Eq),
+        ("JMP 2", Op::Jmp { k: 2 }),
+        ("JZ 0", Op::Jz { k: 0 }),
+        ("GETL 255", Op::GetL { i: 255 }),
+        ("PUTL 0", Op::PutL { i: 0 }),
+        ("CALL f", Op::Call { f: 0 }),
+        ("RET", Op::Ret),
+        ("LOCK a", Op::Lock { l: Lid(0) }),
+        ("LOCKX", Op::LockX),
+        ("UNLOCK a", Op::Unlock { l: Lid(0) }),
+        ("UNLOCKX", Op::UnlockX),
+        ("TRYLOCK a", Op::TryLock { l: Lid(0) }),
+        ("SAY", Op::Say),
+        ("HALT", Op::Halt),
+    ];
+    for (line, op) in rows {
+        let text = with_op(rt.alloc(), line)?;
+        assert_eq!(rt; first_op(rt.alloc(), text.as_str()), Some(op));
+    }
+    Ok(())
+}
+
+#[test]
+fn an_instruction_has_its_own_faults(rt: HostRuntime) -> Result<(), Fail> {
+    let rows: [(&str, u32); 14] = [
+        ("pop", 1),
+        ("LOCKS a", 1),
+        ("JMP 3", 6),
+        ("JZ 65536", 6),
+        ("JMP 65537", 2),
+        ("GETL 256", 2),
+        ("PUTL -1", 2),
+        ("PUSH 9223372036854775808", 2),
+        ("PUSH -0", 2),
+        ("PUSH", 6),
+        ("POP 1", 6),
+        ("TRYLOCK f", 5),
+        ("CALL a", 5),
+        ("UNLOCK 1", 3),
+    ];
+    for (line, kind) in rows {
+        let text = with_op(rt.alloc(), line)?;
+        assert_eq!(rt; fault(rt.alloc(), text.as_str()), Some((4, kind)));
+    }
+    Ok(())
+}
+
+// A philosopher takes the forks to both sides, and lays them down.
+const PHILOSOPHER: &[u8] =
+    b"dim program 1\nlock f0\nlock f1\nlock f2\nlock f3\nlock f4\nfunc phil 1\nPUTL 0\nGETL 0\nLOCKX\nGETL 0\nPUSH 4\nEQ\nJZ 9\nPUSH 0\nJMP 12\nGETL 0\nPUSH 1\nADD\nDUP\nLOCKX\nUNLOCKX\nGETL 0\nUNLOCKX\nRET\nend\nthread phil 0\nthread phil 1\nthread phil 2\nthread phil 3\nthread phil 4\nend program\n";
+
+#[test]
+fn philosophers_are_assembled(rt: HostRuntime) -> Result<(), Fail> {
+    let p = assemble(rt.alloc(), PHILOSOPHER)?;
+    assert_eq!(rt; (p.threads(), p.locks(), p.funcs()), (5, 5, 1));
+    assert_eq!(rt; p.op(0, 6), Some(Op::Jz { k: 9 }));
+    assert_eq!(rt; p.op(0, 17), Some(Op::Ret));
+    assert_eq!(rt; p.op(0, 18), None);
+    assert_eq!(rt; p.start(Tid(4)), (0, 4));
+    Ok(())
+}
+
+// Functions that are declared against the order of their names.
+const TURNED: &[u8] =
+    b"dim program 1\nfunc b 0\nRET\nend\nfunc a 0\nRET\nend\nthread a 0\nend program\n";
+
+#[test]
+fn functions_are_numbered_by_their_names(rt: HostRuntime) -> Result<(), Fail> {
+    let p = assemble(rt.alloc(), TURNED)?;
+    assert_eq!(rt; (p.number(0), p.number(1)), (1, 0));
+    assert_eq!(rt; p.start(Tid(0)), (1, 0));
+    assert_eq!(rt; p.names(rt.alloc())?.len(), 2);
+    Ok(())
+}
+
+// The table of the names of two programs.
+fn both_names(alloc: Global, p: &Program, q: &Program) -> Result<Names, OutOfMemory>
+    ensures { IfOk result (λ names. KnowsFuncs names p.now) }
+{
+    bind_law();
+    Names::merge(alloc, &p.names(alloc)?, &q.names(alloc)?)
+}
+
+#[test]
+fn a_program_is_bound_to_a_larger_table(rt: HostRuntime) -> Result<(), Fail> {
+    let mut p = assemble(rt.alloc(), DOORS.as_bytes())?;
+    let q = assemble(rt.alloc(), PHILOSOPHER)?;
+    let names = both_names(rt.alloc(), &p, &q)?;
+    p.bind(&names);
+    assert_eq!(rt; (p.number(0), p.number(1)), (0, 2));
     Ok(())
 }
 

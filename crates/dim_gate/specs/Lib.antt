@@ -6,3 +6,5 @@ pub mod Answer
 pub mod Legal
 pub mod Invariant
 pub mod Immune
+pub mod Lasting
+pub mod Learns

@@ -1,5 +1,10 @@
 pub mod Own
 pub mod OwnHolds
+mod StuckNumbers
+mod SettleSteps
+mod SettleEnds
+mod Fed
+mod SettleLoop
 mod Replies
 mod Given
 pub mod Asked
@@ -8,7 +13,9 @@ mod SliceIs
 mod Sliced
 mod Crews
 mod Rounds
+mod RoundOf
 mod Endings
 mod Ends
 mod Starts
 mod Settled
+mod Finished

@@ -2,7 +2,9 @@ pub mod Crew
 pub mod Door
 pub mod Played
 pub mod Rules
+pub mod Settle
 pub mod Turn
 pub mod Settings
+pub mod Ends
 pub mod Executes
 pub mod Run

@@ -1,10 +1,10 @@
--- The run that is played: slices, rounds, and all of it.
-use Rattle.std.specs.Prelude.{◌≡◌, ℕ, zero, suc, ◌+◌, ◌*◌, ◌==◌, Bool, true, false, if◌then◌else◌, List, [], ◌∷◌, ◌++◌, slice_index_or, slice_set}
-use Rattle.dim_base.specs.declared.Tid.{Tid}
+-- The run that is played: slices, settles, rounds, and all of it.
+use Rattle.std.specs.Prelude.{◌≡◌, ℕ, zero, suc, ◌+◌, ◌*◌, ◌==◌, Bool, true, false, ◌&&◌, if◌then◌else◌, List, [], ◌∷◌, ◌++◌, slice_index_or, slice_set}
 use Rattle.dim_asm.specs.Code.{Code, thread_count}
 use Rattle.dim_rag.specs.declared.entry.Entry.{Entry}
 use Rattle.dim_vm.specs.Configuration.{Configuration, start, is_ended}
-use Rattle.dim_run.specs.Rules.{Rules}
+use Rattle.dim_run.specs.Rules.{Rules, gate_of}
+use Rattle.dim_run.specs.Settle.{breaks, settled}
 use Rattle.dim_run.specs.Turn.{Turned, Moves, Over, Stops, turn}
 
 -- how far a slice has come: the history, the thread, the moves made, and whether it goes no further
@@ -54,18 +54,26 @@ abbrev pub slices : Rules → ℕ → Moment → Moment
 slices r zero m = m
 slices r (suc k) m = taken (slices r k m) k (slice r r.quantum (slices r k m).past (thread_at r (slices r k m).threads k))
 
--- a round: each thread takes one slice
-abbrev pub round : Rules → Moment → Moment
-round r m = slices r (thread_count r.program) m
+-- after the slices of all threads
+abbrev pub all_slices : Rules → Moment → Moment
+all_slices r m = slices r (thread_count r.program) m
 
--- a moment at which no move of the round is made yet
-abbrev pub afresh : Moment → Moment
-afresh m = record m { moves = 0 }
+-- after the settle that follows them. No move of the next round is made yet
+abbrev pub after_settle : Rules → Moment → Moment
+after_settle r m = record { past = settled (gate_of r) m.past; threads = m.threads; moves = 0 }
 
--- at most so many rounds, of which each but the last has a move
+-- whether nothing goes on after the slices of a round: they have no move, and the settle that follows makes no Break
+abbrev pub is_last : Rules → Moment → Bool
+is_last r m = (m.moves == 0) && (breaks (settled (gate_of r) m.past) == breaks m.past)
+
+-- on from the slices of a round, to the end where it is the last
+abbrev pub go_on : Rules → (Moment → Moment) → Moment → Moment
+go_on r onwards m = if is_last r m then after_settle r m else onwards (after_settle r m)
+
+-- at most so many rounds, of which each but the last has a move or a Break
 abbrev pub rounds : Rules → ℕ → Moment → Moment
 rounds r zero m = m
-rounds r (suc k) m = if (round r m).moves == 0 then round r m else rounds r k (afresh (round r m))
+rounds r (suc k) m = go_on r (rounds r k) (all_slices r m)
 
 -- the first n threads of a program at their start, with so much fuel
 abbrev pub machines_at : Code → ℕ → ℕ → List Configuration
@@ -79,9 +87,9 @@ starts r n = machines_at r.program r.fuel n
 abbrev pub opening : Rules → Moment
 opening r = record { past = []; threads = starts r (thread_count r.program); moves = 0 }
 
--- A thread makes at most as many moves as it has units, and ends once. So there are no more rounds than this.
+-- Each move pays a unit and leaves at most one thread more that yields, and each Break leaves one fewer. So there are no more rounds than this.
 abbrev pub most_rounds : Rules → ℕ
-most_rounds r = thread_count r.program * (r.fuel + 1) + 1
+most_rounds r = 2 * (thread_count r.program * (r.fuel + 1)) + 1
 
 -- the run at its end
 abbrev pub closing : Rules → Moment

@@ -1,6 +1,6 @@
 //! The machines of a run, and the gate that they ask.
-ghost use Rattle.std.specs.Prelude.{◌≡◌, ◌≤◌, ◌<◌, ◌+◌, ◌*◌, ◌^◌, length, IfOk, OnOk};
-ghost use Rattle.dim_asm.specs.Code.{thread_count};
+ghost use Rattle.std.specs.Prelude.{◌≡◌, ◌≤◌, ◌<◌, ◌+◌, ◌*◌, ◌^◌, [], length, IfOk, OnOk};
+ghost use Rattle.dim_asm.specs.Code.{thread_count, lock_count};
 ghost use Rattle.dim_rag.specs.History.{past};
 ghost use Rattle.dim_rag.specs.Fits.{Fits, AreInRange};
 ghost use Rattle.dim_gate.specs.Gate.{constants};
@@ -8,13 +8,15 @@ ghost use Rattle.dim_gate.specs.Legal.{Legal};
 ghost use Rattle.dim_run.specs.Rules.{gate_of};
 ghost use Rattle.dim_run.specs.Played.{machines_at, starts};
 ghost use Rattle.dim_run.specs.Settings.{AreSettings};
-ghost use Rattle.dim_run.specs.Crew.{rules_of, first_gate, IsMachineOf, HasSliced, InStep, Advances, Turns, room_in};
+ghost use Rattle.dim_run.specs.Settle.{IsTwin};
+ghost use Rattle.dim_run.specs.Crew.{rules_of, first_gate, IsMachineOf, HasSliced, InStep, Advances, Turns, Rounded, room_in};
 
 use crate::Settings;
 use crate::door::GateDoor;
 use dim_asm::Program;
 use dim_base::{OutOfMemory, Tid};
 use dim_gate::GateState;
+use dim_monitor::Monitor;
 use dim_signature::Catalogue;
 use dim_vm::Machine;
 use std::alloc::Global;
@@ -22,11 +24,15 @@ use std::alloc::Global;
 /// A run learns at most so many signatures.
 const LEARNS: u32 = 16;
 
-/// The machines of the threads, and the door at which they ask the gate.
+/// A settle makes at most so many entries: a Learn for each cycle of 32 threads, and a Break of each thread.
+const SETTLES: u32 = 48;
+
+/// The machines of the threads, the door at which they ask the gate, and the monitor, which is told what the gate enters.
 #[derive(Drop)]
 pub struct Crew {
     pub door: GateDoor,
     pub machines: Vec<Machine>,
+    pub monitor: Monitor,
 }
 
 impl Crew {
@@ -41,8 +47,10 @@ impl Crew {
         requires few { length loaded.sigs ≤ 4080 }
         ensures gate { IfOk result (λ crew. crew.door.gate ≡ first_gate (gate_of (rules_of program.now loaded.sigs s.now))) }
         ensures machines { IfOk result (λ crew. crew.machines.items ≡ starts (rules_of program.now loaded.sigs s.now) (thread_count program.now)) }
+        ensures monitor { IfOk result (λ crew. crew.monitor ≡ record { threads = thread_count program.now; locks = lock_count program.now; entries = []; spare = 0 }) }
     {
         let machines = machines_of(alloc, program, s.fuel)?;
+        let monitor = Monitor::new(alloc, program.threads(), program.locks())?;
         let gate = GateState::new(
             alloc,
             program.threads(),
@@ -54,17 +62,23 @@ impl Crew {
         Ok(Crew {
             door: GateDoor::new(gate, Tid(0)),
             machines,
+            monitor,
         })
     }
 
-    /// Makes room for the entries of a round.
+    /// Makes room for the entries of a round and of its settle, and for the monitor to be told them.
     pub fn reserve(&mut self, program: &Program, s: &Settings) -> Result<(), OutOfMemory>
         requires settings { AreSettings s.now }
-        requires few { length self.old.door.gate.entries ≤ 262176 }
-        ensures ok { OnOk result (thread_count program.now * (s.now.quantum + 1) ≤ self.new.door.gate.spare) }
+        requires twin { IsTwin self.old.door.gate self.old.monitor }
+        requires few { length self.old.door.gate.entries ≤ 524368 }
+        ensures ok { OnOk result (thread_count program.now * (s.now.quantum + 1) + 48 ≤ self.new.door.gate.spare) }
+        ensures monitor { OnOk result (thread_count program.now * (s.now.quantum + 1) + 48 ≤ self.new.monitor.spare) }
+        ensures twin { OnOk result (IsTwin self.new.door.gate self.new.monitor) }
         ensures same { (constants self.new.door.gate ≡ constants self.old.door.gate) × (self.new.door.gate.entries ≡ self.old.door.gate.entries) × (self.new.machines.items ≡ self.old.machines.items) }
     {
-        self.door.reserve(program.threads() * (s.quantum + 1))
+        let entries = program.threads() * (s.quantum + 1) + SETTLES;
+        self.door.reserve(entries)?;
+        self.monitor.reserve(entries)
     }
 
     /// Thread t takes a slice. It answers the moves made.
@@ -75,6 +89,7 @@ impl Crew {
         requires room { s.now.quantum + 1 ≤ self.old.door.gate.spare }
         ensures advances { Advances (rules_of program.now self.old.door.gate.loaded s.now) t result self.old.door.gate self.new.door.gate self.old.machines.items self.new.machines.items }
         ensures spare { self.old.door.gate.spare ≤ self.new.door.gate.spare + result + 1 }
+        ensures monitor { self.new.monitor ≡ self.old.monitor }
     {
         take_slice(
             &mut self.machines[t as usize],
@@ -86,18 +101,37 @@ impl Crew {
     }
 
     /// Each thread takes one slice, in the order of their numbers. It answers the moves made.
-    pub fn round(&mut self, program: &Program, s: &Settings) -> u32
+    fn slices(&mut self, program: &Program, s: &Settings) -> u32
         requires in_step { InStep (rules_of program.now self.old.door.gate.loaded s.now) self.old.door.gate self.old.machines.items }
         requires some { 1 ≤ s.now.quantum }
-        requires room { thread_count program.now * (s.now.quantum + 1) ≤ self.old.door.gate.spare }
+        requires room { thread_count program.now * (s.now.quantum + 1) + 48 ≤ self.old.door.gate.spare }
         requires few { room_in self.old.machines.items < 2 ^ 32 }
         ensures turns { Turns (rules_of program.now self.old.door.gate.loaded s.now) (thread_count program.now) result self.old.door.gate self.new.door.gate self.old.machines.items self.new.machines.items }
+        ensures room { 48 ≤ self.new.door.gate.spare }
+        ensures monitor { self.new.monitor ≡ self.old.monitor }
     {
         let mut moves = 0;
         for t in 0..program.threads() {
             moves += self.slice(program, s, t);
         }
         moves
+    }
+
+    /// Each thread takes one slice, in the order of their numbers, and a settle follows. It answers whether there was a move or a Break.
+    pub fn round(&mut self, program: &Program, s: &Settings) -> bool
+        requires in_step { InStep (rules_of program.now self.old.door.gate.loaded s.now) self.old.door.gate self.old.machines.items }
+        requires some { 1 ≤ s.now.quantum }
+        requires twin { IsTwin self.old.door.gate self.old.monitor }
+        requires room { thread_count program.now * (s.now.quantum + 1) + 48 ≤ self.old.door.gate.spare }
+        requires monitor_room { thread_count program.now * (s.now.quantum + 1) + 48 ≤ self.old.monitor.spare }
+        requires few { room_in self.old.machines.items < 2 ^ 32 }
+        ensures rounded { Rounded (rules_of program.now self.old.door.gate.loaded s.now) result self.old.door.gate self.new.door.gate self.old.machines.items self.new.machines.items }
+        ensures twin { IsTwin self.new.door.gate self.new.monitor }
+    {
+        let _few = program.threads();
+        let moves = self.slices(program, s);
+        let breaks = self.door.settle(&mut self.monitor);
+        moves > 0 || breaks > 0
     }
 
     /// The gate, once all rounds are over. Its history is legal.

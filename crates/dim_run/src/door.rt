@@ -1,13 +1,17 @@
 //! The gate's door for the machines of one run.
 ghost use Rattle.std.specs.Prelude.{◌≡◌, ◌<◌, ◌≤◌, ◌+◌, ◌^◌, None, length, OnOk};
+ghost use Rattle.dim_run.specs.Settle.{IsBehind, IsTwin, breaks, settled};
 ghost use Rattle.dim_rag.specs.History.{past};
 ghost use Rattle.dim_rag.specs.Fits.{Fits, AreInRange};
 ghost use Rattle.dim_gate.specs.Gate.{constants};
 ghost use Rattle.dim_gate.specs.Legal.{Legal};
 ghost use Rattle.dim_vm.specs.Door.{raised};
 
+use crate::feeding::catch_up;
+use crate::settling::settle;
 use dim_base::{OutOfMemory, Tid};
 use dim_gate::GateState;
+use dim_monitor::Monitor;
 use dim_rag::{Command, Reply};
 use dim_vm::Door;
 use std::marker::Model;
@@ -61,6 +65,26 @@ impl GateDoor {
         ensures same { (constants self.new.gate ≡ constants self.old.gate) × (self.new.gate.entries ≡ self.old.gate.entries) × (self.new.thread ≡ self.old.thread) }
     {
         self.gate.reserve(entries)
+    }
+
+    /// Tells the monitor what was entered, and settles. It answers the number of Breaks.
+    ///
+    /// The last reply is forgotten, since the thread to which it came may have been broken out.
+    pub fn settle(&mut self, monitor: &mut Monitor) -> u32
+        requires cap { length self.old.gate.loaded + 16 ≤ self.old.gate.cap }
+        requires behind { IsBehind self.old.gate monitor.old }
+        requires gate_room { 48 ≤ self.old.gate.spare }
+        requires room { length self.old.gate.entries + 48 ≤ length monitor.old.entries + monitor.old.spare }
+        ensures history { past self.new.gate.entries ≡ settled (constants self.old.gate) (past self.old.gate.entries) }
+        ensures count { breaks (past self.old.gate.entries) + result ≡ breaks (past self.new.gate.entries) }
+        ensures constants { constants self.new.gate ≡ constants self.old.gate }
+        ensures twin { IsTwin self.new.gate monitor.new }
+        ensures legal { Legal (constants self.old.gate) (past self.old.gate.entries) }
+    {
+        self.is_sound();
+        self.last = None;
+        catch_up(&self.gate, monitor);
+        settle(&mut self.gate, monitor)
     }
 
     /// The gate's history is legal. (There is nothing to do: the contract says it.)

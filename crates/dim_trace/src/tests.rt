@@ -142,7 +142,7 @@ fn immunity_after_one_deadlock(rt: HostRuntime) -> Result<(), Fail> {
         depth: 4,
         entries: run_with_a_yield(alloc)?,
     };
-    let text = write_trace(alloc, &program, &trace)?;
+    let text = write_trace(alloc, &program, &program.names(alloc)?, &trace)?;
     assert_eq!(rt; text.as_slice(), IMMUNITY);
     Ok(())
 }
@@ -156,7 +156,7 @@ fn a_line_of_each_kind_of_entry(rt: HostRuntime) -> Result<(), Fail> {
         depth: 32,
         entries: entry_of_each_kind(alloc)?,
     };
-    let text = write_trace(alloc, &program, &trace)?;
+    let text = write_trace(alloc, &program, &program.names(alloc)?, &trace)?;
     assert_eq!(rt; text.as_slice(), EACH_KIND);
     Ok(())
 }

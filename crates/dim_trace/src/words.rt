@@ -3,22 +3,21 @@ ghost use Rattle.std.specs.Prelude.{◌≡◌, ◌∷◌, ◌++◌, [], OnOk};
 ghost use Rattle.std.specs.String.{string_bytes};
 ghost use Rattle.std.specs.List.{join_with_byte};
 ghost use Rattle.std.specs.Fmt.{decimal};
-ghost use Rattle.dim_asm.specs.Code.{func_names};
 ghost use Rattle.dim_trace.specs.Text.{name_at, spaced, births_words, cover_words, lock_word, stack_words, miss_word, why_words, end_words, words_of_entry};
 
 use dim_asm::Program;
 use dim_base::{Lid, Tid};
 use dim_rag::{Births, Entry, MissWhy, Why};
-use dim_stack::Stack;
+use dim_stack::{Names, Stack};
 use std::alloc::AllocError;
 use std::fmt::Write;
 
 /// The name of a function, or an empty one where there is no such function.
-fn name_of(program: &Program, f: u32) -> &str
-    ensures { result.now ≡ name_at (func_names program.now.funcs) f }
+fn name_of(names: &Names, f: u32) -> &str
+    ensures { result.now ≡ name_at names.now f }
 {
-    if f < program.funcs() {
-        program.func_name(f).as_str()
+    if f < names.len() {
+        names.name(f).as_str()
     } else {
         ""
     }
@@ -57,11 +56,11 @@ fn put_cover(text: &mut String, sig: u32, births: &Births) -> Result<(), AllocEr
 }
 
 /// Appends the frames, a space before each.
-fn put_stack(text: &mut String, program: &Program, stack: &Stack) -> Result<(), AllocError>
-    ensures { OnOk result (string_bytes text.new ≡ string_bytes text.old ++ spaced (stack_words (func_names program.now.funcs) stack.now)) }
+fn put_stack(text: &mut String, names: &Names, stack: &Stack) -> Result<(), AllocError>
+    ensures { OnOk result (string_bytes text.new ≡ string_bytes text.old ++ spaced (stack_words names.now stack.now)) }
 {
     for frame in stack.as_slice() {
-        let name = name_of(program, frame.func);
+        let name = name_of(names, frame.func);
         let at = frame.at;
         write!(text, " {name}:{at}")?;
     }
@@ -119,13 +118,18 @@ fn put_act(
 }
 
 /// Appends the words of an entry, a space between two of them.
-pub fn put_entry(text: &mut String, program: &Program, entry: &Entry) -> Result<(), AllocError>
-    ensures { OnOk result (string_bytes text.new ≡ string_bytes text.old ++ join_with_byte 32 (words_of_entry program.now (func_names program.now.funcs) entry.now)) }
+pub fn put_entry(
+    text: &mut String,
+    program: &Program,
+    names: &Names,
+    entry: &Entry,
+) -> Result<(), AllocError>
+    ensures { OnOk result (string_bytes text.new ≡ string_bytes text.old ++ join_with_byte 32 (words_of_entry program.now names.now entry.now)) }
 {
     match entry {
         Entry::Go { t, l, stack } => {
             put_act(text, program, "go", *t, *l)?;
-            put_stack(text, program, stack)
+            put_stack(text, names, stack)
         }
         Entry::Yield {
             t,
@@ -136,18 +140,18 @@ pub fn put_entry(text: &mut String, program: &Program, entry: &Entry) -> Result<
         } => {
             put_act(text, program, "yield", *t, *l)?;
             put_cover(text, *sig, births)?;
-            put_stack(text, program, stack)
+            put_stack(text, names, stack)
         }
         Entry::Got { t, l } => put_act(text, program, "got", *t, *l),
         Entry::Free { t, l } => put_act(text, program, "free", *t, *l),
         Entry::Took { t, l, stack } => {
             put_act(text, program, "took", *t, *l)?;
-            put_stack(text, program, stack)
+            put_stack(text, names, stack)
         }
         Entry::Miss { t, l, stack, why } => {
             put_act(text, program, miss_word(why), *t, *l)?;
             put_why(text, why)?;
-            put_stack(text, program, stack)
+            put_stack(text, names, stack)
         }
         Entry::End { t, why } => put_end(text, *t, *why),
         Entry::Break { set, t } => {

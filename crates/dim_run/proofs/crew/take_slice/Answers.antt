@@ -1,7 +1,7 @@
-use Rattle.std.proofs.Common.{◌≡◌, ℕ, ◌<◌, None, ap, sym, ◌∙◌, subst}
+use Rattle.std.proofs.Common.{◌≡◌, ◌<◌, sym, subst}
 use Rattle.dim_asm.specs.Code.{thread_count}
 use Rattle.dim_rag.specs.History.{past}
-use Rattle.dim_gate.specs.Gate.{Constants, constants}
+use Rattle.dim_gate.specs.Gate.{constants}
 use Rattle.dim_run.specs.Rules.{Rules, gate_of}
 use Rattle.dim_run.specs.Door.{Ajar}
 use Rattle.dim_run.specs.Crew.{rules_of, IsMachineOf, HasSliced}

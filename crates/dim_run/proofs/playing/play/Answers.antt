@@ -1,21 +1,20 @@
-use Rattle.std.proofs.Common.{◌≡◌, ◌≤◌, ◌+◌, ◌*◌, refl, ap, sym, ◌∙◌, subst, List, length, arith}
+use Rattle.std.proofs.Common.{◌≡◌, ap, sym, ◌∙◌, subst, List, map}
 use Rattle.dim_asm.specs.Code.{Code, thread_count}
 use Rattle.dim_signature.specs.Sig.{Sig}
 use Rattle.dim_signature.specs.Catalogue.{Contents}
 use Rattle.dim_run.specs.declared.settings.Settings.{Settings}
-use Rattle.dim_rag.specs.History.{past}
-use Rattle.dim_rag.specs.Fits.{Fits, AreInRange}
+use Rattle.dim_gate.specs.Gate.{Gate}
 use Rattle.dim_rag.specs.Tables.{Replay}
-use Rattle.dim_gate.specs.Gate.{Gate, constants, replay}
-use Rattle.dim_gate.specs.Legal.{Legal}
-use Rattle.dim_vm.specs.Configuration.{Configuration, start}
+use Rattle.dim_vm.specs.Configuration.{start}
 use Rattle.dim_run.specs.Rules.{Rules, gate_of}
 use Rattle.dim_run.specs.Played.{starts}
-use Rattle.dim_run.specs.Crew.{rules_of, PlaysOn, first_gate}
 use Rattle.dim_run.specs.Executes.{Executes}
-use Rattle.dim_run.specs.Run.{outcome_by}
-use Rattle.dim_run.proofs.Starts.{begun, begun_room, begun_so}
-use Rattle.dim_run.proofs.Settled.{executed, played_is}
+use Rattle.dim_run.specs.Crew.{rules_of, first_gate, PlaysOn}
+use Rattle.dim_run.proofs.Starts.{begun, begun_reach, begun_vigour, begun_so}
+use Rattle.dim_run.specs.Ends.{last_of}
+use Rattle.dim_run.specs.Run.{ends_after}
+use Rattle.dim_run.proofs.Settled.{executed}
+use Rattle.dim_run.proofs.Finished.{ends_are}
 use Rattle.dim_run.proofs.playing.play.Goals as goal
 
 -- from a copy of the signatures as from them
@@ -26,45 +25,37 @@ pub play_on-requires-clause-in_step : goal.play_on-requires-clause-in_step
 play_on-requires-clause-in_step c =
     begun c.args.program.now c.args.loaded.now.sigs c.args.s.now c.in_ok-crew.crew.door.gate c.in_ok-crew.crew.machines.items (first c.args.program.now c.args.loaded.now.sigs c.args.s.now c.in_ok-known.known c.in_ok-crew.crew.door.gate c.in_ok-known.ensures c.in_ok-crew.ensures.gate) c.in_ok-crew.ensures.machines
 
-pub play_on-requires-clause-room : goal.play_on-requires-clause-room
-play_on-requires-clause-room c =
-    begun_room c.args.program.now c.args.loaded.now.sigs c.args.s.now c.in_ok-crew.crew.door.gate c.in_ok-crew.crew.machines.items (first c.args.program.now c.args.loaded.now.sigs c.args.s.now c.in_ok-known.known c.in_ok-crew.crew.door.gate c.in_ok-known.ensures c.in_ok-crew.ensures.gate) c.in_ok-crew.ensures.machines
+pub play_on-requires-clause-reach : goal.play_on-requires-clause-reach
+play_on-requires-clause-reach c =
+    begun_reach c.args.program.now c.args.loaded.now.sigs c.args.s.now c.in_ok-crew.crew.door.gate c.in_ok-crew.crew.machines.items (first c.args.program.now c.args.loaded.now.sigs c.args.s.now c.in_ok-known.known c.in_ok-crew.crew.door.gate c.in_ok-known.ensures c.in_ok-crew.ensures.gate) c.in_ok-crew.ensures.machines
+
+pub play_on-requires-clause-vigour : goal.play_on-requires-clause-vigour
+play_on-requires-clause-vigour c =
+    begun_vigour c.args.program.now c.args.loaded.now.sigs c.args.s.now c.in_ok-crew.crew.door.gate c.in_ok-crew.crew.machines.items (first c.args.program.now c.args.loaded.now.sigs c.args.s.now c.in_ok-known.known c.in_ok-crew.crew.door.gate c.in_ok-known.ensures c.in_ok-crew.ensures.gate) c.in_ok-crew.ensures.machines
 
 -- the run, from its start
-plays : (c : goal.After-drop-catalogue-inside-3) → PlaysOn (rules_of c.args.program.now c.args.loaded.now.sigs c.args.s.now) (first_gate (gate_of (rules_of c.args.program.now c.args.loaded.now.sigs c.args.s.now))) c.play_on.new.crew.door.gate
+plays : (c : goal.After-into_entries) → PlaysOn (rules_of c.args.program.now c.args.loaded.now.sigs c.args.s.now) (first_gate (gate_of (rules_of c.args.program.now c.args.loaded.now.sigs c.args.s.now))) c.play_on.new.crew.door.gate
     (starts (rules_of c.args.program.now c.args.loaded.now.sigs c.args.s.now) (thread_count c.args.program.now)) c.play_on.new.crew.machines.items
 plays c =
     begun_so c.args.program.now c.args.loaded.now.sigs c.args.s.now c.in_ok-crew.crew.door.gate c.in_ok-crew.crew.machines.items (first c.args.program.now c.args.loaded.now.sigs c.args.s.now c.in_ok-known.known c.in_ok-crew.crew.door.gate c.in_ok-known.ensures c.in_ok-crew.ensures.gate) c.in_ok-crew.ensures.machines
-    c.play_on.new.crew.door.gate c.play_on.new.crew.machines.items c.in_ok-play_on.ensures
+    c.play_on.new.crew.door.gate c.play_on.new.crew.machines.items c.in_ok-play_on.ensures.plays
 
--- the gate at its end
-abbrev gate_at : goal.After-drop-catalogue-inside-3 → Gate
-gate_at c = c.play_on.new.crew.door.gate
-
-entries_at : (c : goal.After-drop-catalogue-inside-3) → c.into_entries.result.items ≡ (gate_at c).entries
+entries_at : (c : goal.After-into_entries) → c.into_entries.result.items ≡ c.play_on.new.crew.door.gate.entries
 entries_at c = c.into_entries.ensures ∙ ap (λ (x : Replay). x.entries) c.finish-tables.ensures.tables ∙ ap (λ (x : Gate). x.entries) c.into_gate.ensures.gate
 
-pub returns-clause-entries : goal.returns-clause-entries
-returns-clause-entries c =
+-- it executes the program
+executes : (c : goal.After-into_entries) → Executes (rules_of c.args.program.now c.args.loaded.now.sigs c.args.s.now) c.play_on.new.crew.door.gate.entries
+executes c =
     let r : Rules = rules_of c.args.program.now c.args.loaded.now.sigs c.args.s.now in
-    let d : Configuration = start r.program (record { 0 = 0 }) r.fuel in
-    entries_at c ∙ played_is r (gate_at c) c.play_on.new.crew.machines.items d (plays c) c.into_gate.ensures.legal c.into_gate.ensures.fits c.into_gate.ensures.in_range
+    executed r c.play_on.new.crew.door.gate c.play_on.new.crew.machines.items (start r.program (record { 0 = 0 }) r.fuel) (plays c) c.into_gate.ensures.legal
 
-pub returns-clause-outcome : goal.returns-clause-outcome
-returns-clause-outcome c =
-    let threads : c.finish-tables.result.0.threads ≡ thread_count c.args.program.now =
-    ap (λ (x : Replay). x.threads) c.finish-tables.ensures.tables ∙ ap (λ (x : Gate). x.threads) c.into_gate.ensures.gate ∙ ap (λ x. x.threads) (plays c).constants_are
-    in
-    c.outcome_of-outcome.ensures
-    ∙ ap (λ n. outcome_by n (past c.finish-tables.result.0.entries)) threads
-    ∙ ap (λ x. outcome_by (thread_count c.args.program.now) (past x)) (sym c.into_entries.ensures)
-
-pub returns-clause-room : goal.returns-clause-room
-returns-clause-room c =
-    subst (λ x. length x ≤ 1048576) (sym (entries_at c)) (omega (arith, (plays c).few))
+pub returns-clause-ends_by_entries : goal.returns-clause-ends_by_entries
+returns-clause-ends_by_entries c =
+    let r : Rules = rules_of c.args.program.now c.args.loaded.now.sigs c.args.s.now in
+    c.in_ok-ends.ensures
+    ∙ ap (map last_of) c.deref.ensures.value
+    ∙ ends_are r c.play_on.new.crew.door.gate c.play_on.new.crew.machines.items (start r.program (record { 0 = 0 }) r.fuel) (plays c).step (executes c).legal (executes c).settled
+    ∙ ap (ends_after c.args.program.now c.args.s.now) (sym (entries_at c))
 
 pub returns-clause-executes : goal.returns-clause-executes
-returns-clause-executes c =
-    let r : Rules = rules_of c.args.program.now c.args.loaded.now.sigs c.args.s.now in
-    let d : Configuration = start r.program (record { 0 = 0 }) r.fuel in
-    subst (Executes r) (sym (entries_at c)) (executed r (gate_at c) c.play_on.new.crew.machines.items d (plays c) c.into_gate.ensures.legal c.into_gate.ensures.fits c.into_gate.ensures.in_range)
+returns-clause-executes c = subst (Executes (rules_of c.args.program.now c.args.loaded.now.sigs c.args.s.now)) (sym (entries_at c)) (executes c)

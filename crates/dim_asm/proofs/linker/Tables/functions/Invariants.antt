@@ -7,7 +7,6 @@ use Rattle.dim_asm.proofs.linker.Tables.functions.Given as goal
 
 abbrev pub invariant-loop-draft : goal.invariant-loop-draft
 invariant-loop-draft l = record {
-  number : length l.funcs.items ≡ l.draft-index;
   line : l.line + draft_count (drop l.draft-index l.drafts) + 2 * (length l.drafts - l.draft-index) ≡ l.first + draft_count l.drafts + 2 * length l.drafts;
-  same : behind l.funcs.items (link_functions (seen l.self) l.draft-index l.line (drop l.draft-index l.drafts)) ≡ link_functions (seen l.self) 0 l.first l.drafts;
+  same : behind l.funcs.items (link_functions (seen l.self) l.line (drop l.draft-index l.drafts)) ≡ link_functions (seen l.self) l.first l.drafts;
 }

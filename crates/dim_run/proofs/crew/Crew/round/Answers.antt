@@ -1,20 +1,33 @@
-use Rattle.std.proofs.Common.{◌≡◌, subst, arith}
+use Rattle.std.proofs.Common.{◌≡◌, ◌≤◌, ◌+◌, ◌*◌, ltb, arith}
 use Rattle.dim_asm.specs.Code.{thread_count}
-use Rattle.dim_run.specs.Rules.{Rules}
-use Rattle.dim_run.specs.Crew.{rules_of, Advances, Turns}
-use Rattle.dim_run.proofs.Rounds.{same_rules, one_turn_more, room_left}
+use Rattle.dim_run.specs.Crew.{rules_of}
+use Rattle.dim_run.proofs.RoundOf.{rounded, slices_behind, slices_room, is_some_count, is_no_count}
 use Rattle.dim_run.proofs.crew.Crew.round.Goals as goal
 
-pub loop-t-preserved : goal.loop-t-preserved
-loop-t-preserved c =
-    let r : Rules = rules_of c.args.program.now c.args.self.now.door.gate.loaded c.args.s.now in
-    let so_far = c.loop-t.invariant.turns in
-    let now = c.loop-t.self.door.gate in
-    let after = c.slice-moves.new.self in
-    let same = same_rules c.args.program.now c.args.s.now c.args.self.now.door.gate now so_far.constants_are in
-    let one : Advances r c.loop-t.t c.slice-moves.result now after.door.gate c.loop-t.self.machines.items after.machines.items =
-    subst (λ (x : Rules). Advances x c.loop-t.t c.slice-moves.result now after.door.gate c.loop-t.self.machines.items after.machines.items) same c.slice-moves.ensures.advances in
-    record {
-      turns = one_turn_more r c.loop-t.t c.loop-t.moves c.slice-moves.result c.args.self.now.door.gate now after.door.gate c.args.self.now.machines.items c.loop-t.self.machines.items after.machines.items so_far one;
-      room = room_left (thread_count c.args.program.now) c.loop-t.t c.args.s.now.quantum now.spare after.door.gate.spare c.slice-moves.result (omega arith) c.loop-t.invariant.room c.slice-moves.ensures.spare one.few;
-    }
+pub settle-breaks-requires-clause-behind : goal.settle-breaks-requires-clause-behind
+settle-breaks-requires-clause-behind c =
+    rw c.slices-moves.ensures.monitor
+    (slices_behind (thread_count c.args.program.now) c.slices-moves.result (thread_count c.args.program.now * (c.args.s.now.quantum + 1)) c.args.self.now.door.gate c.slices-moves.new.self.door.gate c.args.self.now.monitor
+    c.requires.twin c.slices-moves.ensures.turns.moved c.slices-moves.ensures.turns.constants_are c.requires.monitor_room)
+
+pub settle-breaks-requires-clause-room : goal.settle-breaks-requires-clause-room
+settle-breaks-requires-clause-room c =
+    rw c.slices-moves.ensures.monitor
+    (slices_room (thread_count c.args.program.now) c.slices-moves.result (thread_count c.args.program.now * (c.args.s.now.quantum + 1)) c.args.self.now.door.gate c.slices-moves.new.self.door.gate c.args.self.now.monitor
+    c.requires.twin c.slices-moves.ensures.turns.moved c.slices-moves.ensures.turns.constants_are c.requires.monitor_room)
+
+pub returns-then-moves-gt0-clause-rounded : goal.returns-then-moves-gt0-clause-rounded
+returns-then-moves-gt0-clause-rounded c =
+    rounded (rules_of c.args.program.now c.args.self.now.door.gate.loaded c.args.s.now) (omega (arith, c.threads-few.ensures.value, c.threads-few.ensures.few)) c.args.self.now.door.gate c.slices-moves.new.self.door.gate c.settle-breaks.new.self.gate
+    c.args.self.now.machines.items c.slices-moves.new.self.machines.items c.slices-moves.result c.settle-breaks.result c.slices-moves.ensures.turns c.settle-breaks.ensures.legal c.settle-breaks.ensures.history c.settle-breaks.ensures.count c.settle-breaks.ensures.constants
+    (ltb 0 c.slices-moves.result)
+    (λ q. omega (arith, c.if-moves-gt0.true))
+    (λ q. (let none : c.slices-moves.result ≡ 0 = is_no_count c.slices-moves.result q in absurd (omega (arith, none, c.if-moves-gt0.true))))
+
+pub returns-else-moves-gt0-clause-rounded : goal.returns-else-moves-gt0-clause-rounded
+returns-else-moves-gt0-clause-rounded c =
+    rounded (rules_of c.args.program.now c.args.self.now.door.gate.loaded c.args.s.now) (omega (arith, c.threads-few.ensures.value, c.threads-few.ensures.few)) c.args.self.now.door.gate c.slices-moves.new.self.door.gate c.settle-breaks.new.self.gate
+    c.args.self.now.machines.items c.slices-moves.new.self.machines.items c.slices-moves.result c.settle-breaks.result c.slices-moves.ensures.turns c.settle-breaks.ensures.legal c.settle-breaks.ensures.history c.settle-breaks.ensures.count c.settle-breaks.ensures.constants
+    (ltb 0 c.settle-breaks.result)
+    (λ q. (let some : 1 ≤ c.settle-breaks.result = is_some_count c.settle-breaks.result q in omega (arith, some)))
+    (λ q. (let none : c.settle-breaks.result ≡ 0 = is_no_count c.settle-breaks.result q in omega (arith, none, c.if-moves-gt0.false)))

@@ -1,8 +1,8 @@
-use Rattle.std.proofs.Common.{◌≡◌, subst, get_or}
+use Rattle.std.proofs.Common.{subst, get_or}
 use Rattle.dim_rag.specs.History.{past}
 use Rattle.dim_vm.specs.Configuration.{Configuration}
 use Rattle.dim_run.specs.Rules.{Rules}
-use Rattle.dim_run.specs.Crew.{rules_of, HasSliced, Advances}
+use Rattle.dim_run.specs.Crew.{rules_of, HasSliced}
 use Rattle.dim_run.proofs.Crews.{advances}
 use Rattle.dim_run.proofs.crew.Crew.slice.Goals as goal
 

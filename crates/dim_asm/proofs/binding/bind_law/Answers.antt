@@ -1,0 +1,17 @@
+use Rattle.dim_asm.proofs.BoundLemmas.{kept, numbers, last, own, merged}
+use Rattle.dim_asm.proofs.binding.bind_law.Goals as goal
+
+pub returns-clause-kept : goal.returns-clause-kept
+returns-clause-kept c = kept
+
+pub returns-clause-numbers : goal.returns-clause-numbers
+returns-clause-numbers c = numbers
+
+pub returns-clause-last : goal.returns-clause-last
+returns-clause-last c = last
+
+pub returns-clause-own : goal.returns-clause-own
+returns-clause-own c = own
+
+pub returns-clause-merged : goal.returns-clause-merged
+returns-clause-merged c = merged

@@ -1,0 +1,248 @@
+-- The names in a text, and those that its history uses.
+use Rattle.std.proofs.Common.{◌≡◌, ◌<◌, ◌≤◌, ◌^◌, ℕ, inl, inr, Bool, true, false, ◌||◌, List, [], ◌∷◌, ◌++◌, length, map, Option, Some, None, Ok, arith, rules, refl, sym, ap, ap₂, ◌∙◌, subst, append-nil}
+use Rattle.std.specs.Prelude.{◌==◌, codes, get_or, slice_get, All}
+use Rattle.std.specs.Option.{IsSome, MatchOption, option_map}
+use Rattle.std.specs.Borrow.{Bor}
+use Rattle.std.specs.List.{AllByRecursion, flat_map, list_any}
+use Rattle.std.specs.Str.{bytes_eq}
+use Rattle.std.specs.Fmt.{decimal}
+use Rattle.std.proofs.lemmas.Bool.{cases_Bool, or_cases, or_left, or_right, cond-true, cond-false, false≢true, false_from_ne_true}
+use Rattle.std.proofs.lemmas.Cmp.{nat_list_eq_equiv}
+use Rattle.std.proofs.lemmas.Map.Keys.{any_passes_from_place}
+use Rattle.std.proofs.lemmas.Map.Views.{All-from_any}
+use Rattle.std.proofs.lemmas.Option.{get_or_from_slice_get, slice_get_within}
+use Rattle.std.proofs.lemmas.List.Concat.{flat_map-append}
+use Rattle.std.proofs.lemmas.List.Folds.{list_any_none}
+use Rattle.std.proofs.lemmas.List.Splits.{slice_split_none}
+use Rattle.std.proofs.lemmas.Slice.Eq.{bytes_eq-Decides}
+use Rattle.dim_text.specs.Cuts.{lines_of, words_of, sides_of, two_sides, HasNo}
+use Rattle.dim_text.specs.Naming.{is_name, IsName, name_of as name_of_word}
+use Rattle.dim_text.specs.Numerals.{number_of as number_in}
+use Rattle.dim_text.proofs.Cutting.{lines_of-ended, words_of-line_of, sides_of-frame_word}
+use Rattle.dim_text.proofs.Digits.{HasNo-decimal}
+use Rattle.dim_text.proofs.NameLemmas.{HasNo-name}
+use Rattle.dim_stack.specs.Names.{HasNamesOf, table_of, number_of, name_of}
+use Rattle.dim_stack.specs.declared.Frame.{Frame}
+use Rattle.dim_stack.proofs.TableLemmas.{has-table_of, has-append, table-same}
+use Rattle.dim_stack.proofs.NumberLemmas.{missing, found}
+use Rattle.dim_history_file.specs.Judging.{frame_of}
+use Rattle.dim_history_file.specs.Value.{NamedFrame, NamedSig, named_frame, names_of_stack, names_used}
+use Rattle.dim_history_file.specs.Naming.{name_in, names_in_word, names_in_words, names_in_line, names_in_lines, names_in, Covers}
+use Rattle.dim_history_file.specs.Spelling.{Line, SignatureLine, StackLine, EndLine, spelled_frame, spelled, sig_lines, history_lines, text_of, history_text}
+use Rattle.dim_history_file.specs.Grammar.{IsFrame, IsStack, IsSignature, IsHistory}
+use Rattle.dim_history_file.proofs.Judged.{chosen, name_ok}
+use Rattle.dim_history_file.proofs.Spelled.{line_has_no, head_has_no, signature_has_no, end_has_no, stack_has_no, words_of_stack}
+
+-- ---- covering
+abbrev has : List ℕ → List (List ℕ) → Bool
+has q xs = list_any (bytes_eq q) xs
+
+pub covers_left : (table a b : List (List ℕ)) → Covers table (a ++ b) → Covers table a
+covers_left table a b h q e = h q (has-append q a b ∙ or_left (has q a) (has q b) e)
+
+pub covers_right : (table a b : List (List ℕ)) → Covers table (a ++ b) → Covers table b
+covers_right table a b h q e = h q (has-append q a b ∙ or_right (has q a) (has q b) e)
+
+pub covers_table : (names : List (List ℕ)) → Covers (table_of names) names
+covers_table names q e = has-table_of q names ∙ e
+
+pub covers_first : (a b : List (List ℕ)) → Covers (table_of (a ++ b)) a
+covers_first a b = covers_left (table_of (a ++ b)) a b (covers_table (a ++ b))
+
+pub covers_second : (a b : List (List ℕ)) → Covers (table_of (a ++ b)) b
+covers_second a b = covers_right (table_of (a ++ b)) a b (covers_table (a ++ b))
+
+-- a name that stands in the table has a number
+pub numbered : (table : List (List ℕ)) (name : List ℕ) → has name table ≡ true → number_of table name ≡ None → ⊥
+numbered table name e none =
+    let absent : has name table ≡ false = list_any_none (bytes_eq name) table (λ k d h.
+    false_from_ne_true (bytes_eq name (get_or table k d)) (λ t. missing table name none k d h (sym ((bytes_eq-Decides name (get_or table k d)).0 t)))) in
+    false≢true (sym absent ∙ e)
+
+-- ---- the names in a line
+names_in_frame : (f : NamedFrame) → IsFrame f → names_in_word (spelled_frame f) ≡ f.name ∷ []
+names_in_frame f is =
+    ap name_in (sides_of-frame_word f.name (decimal f.at) (HasNo-name 58 f.name refl is.name) (HasNo-decimal 58 f.at (λ r. omega (arith, r.1)) (omega (arith, is.near))))
+    ∙ cond-true (is_name f.name) (f.name ∷ []) [] is.name
+
+names_in_frames : (fs : List NamedFrame) → AllByRecursion IsFrame fs → names_in_words (map spelled_frame fs) ≡ names_of_stack fs
+names_in_frames [] h = refl
+names_in_frames (f ∷ fs) h = ap₂ (λ a b. a ++ b) (names_in_frame f h.0) (names_in_frames fs h.1)
+
+names_in_stack : (stack : List NamedFrame) → IsStack stack → names_in_line (spelled (StackLine stack)) ≡ names_of_stack stack
+names_in_stack stack is = ap names_in_words (words_of_stack stack is) ∙ names_in_frames stack is.frames
+
+names_in_number : (n : ℕ) → n < 2 ^ 64 → names_in_word (decimal n) ≡ []
+names_in_number n small = ap (λ parts. name_in (two_sides parts)) (slice_split_none (λ b. b == 58) (decimal n) (HasNo-decimal 58 n (λ r. omega (arith, r.1)) small))
+
+names_in_signature : (depth count : ℕ) → depth ≤ 32 → count ≤ 32 → names_in_line (spelled (SignatureLine depth count)) ≡ []
+names_in_signature depth count h k =
+    ap names_in_words (words_of-line_of (codes "signature") (decimal depth ∷ decimal count ∷ []) (signature_has_no depth count h k 32 (omega arith) refl))
+    ∙ ap₂ (λ a b. names_in_word (codes "signature") ++ (a ++ (b ++ []))) (names_in_number depth (omega (arith, h))) (names_in_number count (omega (arith, k)))
+
+names_in_end : (n : ℕ) → n ≤ 4096 → names_in_line (spelled (EndLine n)) ≡ []
+names_in_end n h =
+    ap names_in_words (words_of-line_of (codes "end") (decimal n ∷ []) (end_has_no n h 32 (omega arith) refl))
+    ∙ ap (λ a. names_in_word (codes "end") ++ (a ++ [])) (names_in_number n (omega (arith, h)))
+
+-- ---- the names in lines
+abbrev line_names : Line → List (List ℕ)
+line_names x = names_in_line (spelled x)
+
+abbrev IsOneLine : Line → Type 0
+IsOneLine x = HasNo 10 (spelled x)
+
+names_in_text : (lines : List Line) → AllByRecursion IsOneLine lines → names_in (text_of lines) ≡ flat_map line_names lines
+names_in_text [] h = refl
+names_in_text (x ∷ lines) h =
+    ap names_in_lines (lines_of-ended (spelled x) (text_of lines) h.0) ∙ ap (λ ns. line_names x ++ ns) (names_in_text lines h.1)
+
+all-append : {X : Type 0} (P : X → Type 0) (xs ys : List X) → AllByRecursion P xs → AllByRecursion P ys → AllByRecursion P (xs ++ ys)
+all-append P [] ys h k = k
+all-append P (x ∷ xs) ys h k = (h.0, all-append P xs ys h.1 k)
+
+stacks_one : (stacks : List (List NamedFrame)) → AllByRecursion IsStack stacks → AllByRecursion IsOneLine (map (λ stack. StackLine stack) stacks)
+stacks_one [] h = tt
+stacks_one (s ∷ stacks) h = (stack_has_no s h.0, stacks_one stacks h.1)
+
+sigs_one : (sigs : List NamedSig) → AllByRecursion IsSignature sigs → AllByRecursion IsOneLine (flat_map sig_lines sigs)
+sigs_one [] h = tt
+sigs_one (s ∷ sigs) h =
+    let count = length s.stacks in
+    let words = codes "signature" ∷ decimal s.depth ∷ decimal count ∷ [] in
+    all-append IsOneLine (sig_lines s) (flat_map sig_lines sigs) (line_has_no words (signature_has_no s.depth count h.0.high h.0.few 10 (omega arith) refl), stacks_one s.stacks h.0.stacks) (sigs_one sigs h.1)
+
+stacks_names : (stacks : List (List NamedFrame)) → AllByRecursion IsStack stacks → flat_map line_names (map (λ stack. StackLine stack) stacks) ≡ flat_map names_of_stack stacks
+stacks_names [] h = refl
+stacks_names (s ∷ stacks) h = ap₂ (λ a b. a ++ b) (names_in_stack s h.0) (stacks_names stacks h.1)
+
+sigs_names : (sigs : List NamedSig) → AllByRecursion IsSignature sigs → flat_map line_names (flat_map sig_lines sigs) ≡ names_used sigs
+sigs_names [] h = refl
+sigs_names (s ∷ sigs) h =
+    flat_map-append line_names (sig_lines s) (flat_map sig_lines sigs)
+    ∙ ap₂ (λ a b. (a ++ b) ++ flat_map line_names (flat_map sig_lines sigs)) (names_in_signature s.depth (length s.stacks) h.0.high h.0.few) (stacks_names s.stacks h.0.stacks)
+    ∙ ap (λ ns. flat_map names_of_stack s.stacks ++ ns) (sigs_names sigs h.1)
+
+-- the names in the text of a history are those that it uses
+pub names_in_history : (sigs : List NamedSig) → IsHistory sigs → names_in (history_text sigs) ≡ names_used sigs
+names_in_history sigs h =
+    let last = EndLine (length sigs) in
+    let body = flat_map sig_lines sigs in
+    let ends : IsOneLine last = line_has_no (codes "end" ∷ decimal (length sigs) ∷ []) (end_has_no (length sigs) h.few 10 (omega arith) refl) in
+    names_in_text (history_lines sigs) (head_has_no, all-append IsOneLine body (last ∷ []) (sigs_one sigs h.signatures) (ends, tt))
+    ∙ flat_map-append line_names body (last ∷ [])
+    ∙ ap₂ (λ a b. a ++ (b ++ [])) (sigs_names sigs h.signatures) (names_in_end (length sigs) h.few)
+    ∙ append-nil (names_used sigs)
+
+pub used_table : (bytes : List ℕ) (sigs : List NamedSig) → IsHistory sigs → bytes ≡ history_text sigs → table_of (names_in bytes) ≡ table_of (names_used sigs)
+used_table bytes sigs h e = ap table_of (ap names_in e ∙ names_in_history sigs h)
+
+-- ---- gathering names
+abbrev pub Gathers : List (List ℕ) → List (List ℕ) → List (List ℕ) → List (List ℕ) → Type 0
+Gathers start all now rest = (q : List ℕ) → (has q now || has q rest) ≡ (has q start || has q all)
+
+or_assoc : (a b c : Bool) → ((a || b) || c) ≡ (a || (b || c))
+or_assoc true b c = refl
+or_assoc false b c = refl
+
+pub or_false : (a : Bool) → (a || false) ≡ a
+or_false true = refl
+or_false false = refl
+
+pub gather_step : (start all now a rest new : List (List ℕ)) → Gathers start all now (a ++ rest) → HasNamesOf now a new → Gathers start all new rest
+gather_step start all now a rest new h put q =
+    ap (λ b. b || has q rest) (put q) ∙ or_assoc (has q now) (has q a) (has q rest) ∙ ap (λ b. has q now || b) (sym (has-append q a rest)) ∙ h q
+
+pub gather_end : (start all now : List (List ℕ)) → Gathers start all now [] → HasNamesOf start all now
+gather_end start all now h q = sym (or_false (has q now)) ∙ h q
+
+pub put_none : (old now : List (List ℕ)) → now ≡ [] → HasNamesOf old now old
+put_none old now none q = sym (or_false (has q old)) ∙ ap (λ ns. has q old || has q ns) (sym none)
+
+-- a name that a text has before a colon
+names_are : (word q : List ℕ) → has q (names_in_word word) ≡ true → IsName q
+names_are word q e = go (sides_of word) e
+  where
+    go : (sides : Option (List ℕ × List ℕ)) → has q (name_in sides) ≡ true → IsName q
+    go None e = cc
+    go (Some (name, offset)) e =
+        elim (cases_Bool (is_name name)) [
+          | inl is ↦
+              let here : (bytes_eq q name || false) ≡ true = sym (ap (λ ns. has q ns) (cond-true (is_name name) (name ∷ []) [] is)) ∙ e in
+              let same : q ≡ name = (bytes_eq-Decides q name).0 (sym (or_false (bytes_eq q name)) ∙ here) in
+              subst IsName (sym same) is
+          | inr other ↦ absurd (false≢true (sym (ap (λ ns. has q ns) (cond-false (is_name name) (name ∷ []) [] other)) ∙ e))
+        ]
+
+each_is : {X : Type 0} (f : X → List (List ℕ)) → ((x : X) (q : List ℕ) → has q (f x) ≡ true → IsName q) → (xs : List X) (q : List ℕ) → has q (flat_map f xs) ≡ true → IsName q
+each_is f h [] q e = cc
+each_is f h (x ∷ xs) q e =
+    elim (or_cases (has q (f x)) (has q (flat_map f xs)) (sym (has-append q (f x) (flat_map f xs)) ∙ e)) [
+      | inl here ↦ h x q here
+      | inr there ↦ each_is f h xs q there
+    ]
+
+pub gathered_named : (bytes : List ℕ) (table : List (List ℕ)) → HasNamesOf [] (names_in bytes) table → All IsName table
+gathered_named bytes table h =
+    All-from_any nat_list_eq_equiv IsName table (λ q e. each_is names_in_line (λ line p f. each_is names_in_word names_are (words_of line) p f) (lines_of bytes) q (sym (h q) ∙ e))
+
+pub gathered_table : (bytes : List ℕ) (table : List (List ℕ)) → HasNamesOf [] (names_in bytes) table → table_of table ≡ table_of (names_in bytes)
+gathered_table bytes table h = table-same table (names_in bytes) h
+
+-- ---- numbers of names
+pub has_itself : (q : List ℕ) (names : List (List ℕ)) → has q (q ∷ names) ≡ true
+has_itself q names = or_left (bytes_eq q q) (has q names) ((bytes_eq-Decides q q).1 refl)
+
+pub has_place : (names : List (List ℕ)) (n : ℕ) (name : List ℕ) → slice_get names n ≡ Some name → has name names ≡ true
+has_place names n name e = any_passes_from_place (bytes_eq name) names n name e ((bytes_eq-Decides name name).1 refl)
+
+pub some_number : (table : List (List ℕ)) (name : List ℕ) (r : Option ℕ) → r ≡ number_of table name → has name table ≡ true → IsSome r
+some_number table name None e h = absurd (numbered table name h (sym e))
+some_number table name (Some n) e h = search rules
+
+pub found_name : (table : List (List ℕ)) (name : List ℕ) (n : ℕ) → number_of table name ≡ Some n → name_of table n ≡ name
+found_name table name n e = get_or_from_slice_get table n name [] (found table name n e)
+
+pub found_within : (table : List (List ℕ)) (name : List ℕ) (n : ℕ) → number_of table name ≡ Some n → n < length table
+found_within table name n e = slice_get_within table n name (found table name n e)
+
+pub renamed : (to from : List (List ℕ)) (f : Frame) (n : ℕ) (name : List ℕ) → number_of to name ≡ Some n → slice_get from f.func ≡ Some name
+    → named_frame to (record { func = n; at = f.at }) ≡ named_frame from f
+renamed to from f n name e is =
+    ap (λ x. let g : NamedFrame = record { name = x; at = f.at } in g) (found_name to name n e ∙ sym (get_or_from_slice_get from f.func name [] is))
+
+-- the frame that a word spells
+pub frame_read : (word function offset name : List ℕ) (at : ℕ) → sides_of word ≡ Some (function, offset) → name_of_word function ≡ Some name → number_in 65535 offset ≡ Some at → frame_of word ≡ Ok (record { name = name; at = at })
+unfolding frame_of
+frame_read word function offset name at e f g = rw (e, f, g) refl
+
+pub name_there : (word function offset : List ℕ) → sides_of word ≡ Some (function, offset) → IsName function → has function (names_in_word word) ≡ true
+name_there word function offset e is =
+    ap (λ sides. has function (name_in sides)) e ∙ ap (λ ns. has function ns) (cond-true (is_name function) (function ∷ []) [] is) ∙ has_itself function []
+
+pub name_found : (table : List (List ℕ)) (word function offset name bytes : List ℕ) (r : Option ℕ) → Covers table (names_in_word word) → sides_of word ≡ Some (function, offset) → name_of_word function ≡ Some name → bytes ≡ name
+    → r ≡ number_of table bytes → IsSome r
+name_found table word function offset name bytes r covers e f is at =
+    let h = name_ok function name f in
+    let there = name_there word function offset e (subst IsName (sym h.0) h.1) in
+    some_number table bytes r at (covers bytes (subst (λ x. has x (names_in_word word) ≡ true) (h.0 ∙ sym is) there))
+
+pub frame_value : (table : List (List ℕ)) (word function offset name bytes : List ℕ) (at n : ℕ) → sides_of word ≡ Some (function, offset) → name_of_word function ≡ Some name → number_in 65535 offset ≡ Some at → bytes ≡ name
+    → number_of table bytes ≡ Some n → frame_of word ≡ Ok (named_frame table (record { func = n; at = at }))
+frame_value table word function offset name bytes at n e f g is h =
+    frame_read word function offset name at e f g
+    ∙ ap (λ x. let y : NamedFrame = record { name = x; at = at } in Ok y) (sym (found_name table bytes n h ∙ is))
+
+pub name_in_word : (word function offset : List ℕ) (r : Option (Bor (List ℕ))) → sides_of word ≡ Some (function, offset) → option_map (λ s. s.now) r ≡ name_of_word function
+    → MatchOption r (names_in_word word ≡ []) (λ name. names_in_word word ≡ name.now ∷ [])
+unfolding name_of_word
+name_in_word word function offset None e f =
+    elim (chosen (is_name function) _ _ _ (sym f)) [
+      | inl is ↦ cc (is.1)
+      | inr other ↦ ap name_in e ∙ cond-false (is_name function) (function ∷ []) [] other.0
+    ]
+name_in_word word function offset (Some b) e f =
+    elim (chosen (is_name function) _ _ _ (sym f)) [
+      | inl is ↦ let same : function ≡ b.now = cc (is.1) in ap name_in e ∙ cond-true (is_name function) (function ∷ []) [] is.0 ∙ ap (λ x. x ∷ []) same
+      | inr other ↦ cc (other.1)
+    ]

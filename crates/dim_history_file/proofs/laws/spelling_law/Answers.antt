@@ -1,0 +1,8 @@
+use Rattle.dim_history_file.proofs.Moving.{spelled_back}
+use Rattle.dim_history_file.proofs.laws.spelling_law.Goals as goal
+
+pub returns : goal.returns
+returns c = record {
+  text = λ bytes sigs e. (spelled_back bytes sigs e).1;
+  history = λ bytes sigs e. (spelled_back bytes sigs e).0;
+}

@@ -1,0 +1,24 @@
+use Rattle.std.proofs.Common.{All, [], ◌∷◌, ◌++◌, ap, ap₂, sym, ◌∙◌, subst}
+use Rattle.std.proofs.lemmas.List.{map_push}
+use Rattle.std.proofs.lemmas.List.Elements.{All-push}
+use Rattle.dim_signature.specs.Sig.{Sig}
+use Rattle.dim_stack.specs.Names.{IsNamedBy}
+use Rattle.dim_history_file.specs.Value.{named_sig, named, AreNamed}
+use Rattle.dim_history_file.proofs.Sound.{map_one_more}
+use Rattle.dim_history_file.proofs.renaming.renamed_catalogue.Goals as goal
+
+pub loop-i-preserved : goal.loop-i-preserved
+loop-i-preserved c =
+    let names = c.args.names.now in
+    let from = c.args.h.now.names in
+    let sigs = c.loop-i.catalogue.sigs in
+    let sig = c.in_ok-sig.sig in
+    let more = c.in_ok-append.ensures in
+    record {
+      same =
+          ap (named names) more
+          ∙ map_push (named_sig names) sigs sig
+          ∙ ap₂ (λ a b. a ++ b ∷ []) c.loop-i.invariant.same c.in_ok-sig.ensures.same
+          ∙ sym (map_one_more (named_sig from) c.args.h.now.catalogue.sigs c.loop-i.i c.get.result.now c.get.ensures.value);
+      named = subst (AreNamed names) (sym more) (All-push (λ (s : Sig). All (IsNamedBy names) s.stacks) sigs sig c.loop-i.invariant.named c.in_ok-sig.ensures.named);
+    }

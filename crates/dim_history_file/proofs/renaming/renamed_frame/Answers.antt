@@ -1,0 +1,12 @@
+use Rattle.std.proofs.Common.{sym, ◌∙◌}
+use Rattle.dim_history_file.proofs.Using.{some_number, has_place, renamed}
+use Rattle.dim_history_file.proofs.renaming.renamed_frame.Goals as goal
+
+pub unwrap-requires : goal.unwrap-requires
+unwrap-requires c =
+    let name = c.name-name.result.now in
+    some_number c.args.to.now name c.number.result c.number.ensures (c.requires.covers name (has_place c.args.from.now c.args.frame.func name c.name-name.ensures.name))
+
+pub returns-clause-same : goal.returns-clause-same
+returns-clause-same c =
+    renamed c.args.to.now c.args.from.now c.args.frame c.unwrap.result c.name-name.result.now (sym c.number.ensures ∙ c.unwrap.ensures) c.name-name.ensures.name

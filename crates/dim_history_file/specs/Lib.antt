@@ -1,0 +1,9 @@
+pub mod Value
+pub mod Faults
+pub mod Judging
+pub mod Spelling
+pub mod Grammar
+pub mod Naming
+pub mod Reader
+pub mod Seen
+pub mod Signing

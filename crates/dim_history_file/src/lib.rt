@@ -1,0 +1,24 @@
+//! Histories of signatures with the names of their functions, and the text of a history.
+#![tactic(auto)]
+
+mod fault;
+mod frames;
+mod history;
+mod laws;
+mod names;
+mod reader;
+mod reading;
+mod renaming;
+mod signing;
+mod words;
+mod writing;
+
+pub use fault::{FileFault, FileKind, ReadFault};
+pub use history::History;
+pub use laws::{merged_law, reading_law, spelling_law};
+pub use reading::read;
+pub use renaming::rename;
+pub use writing::{put_stack, write};
+
+#[cfg(test)]
+mod tests;

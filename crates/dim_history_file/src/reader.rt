@@ -1,0 +1,220 @@
+//! The reader of a history, line by line.
+ghost use Rattle.std.specs.Prelude.{◌≡◌, ◌<◌, ◌^◌, Some, OnOk, length, map};
+ghost use Rattle.dim_text.specs.Reading.{Gives, Leaves, in_line};
+ghost use Rattle.dim_text.specs.Cuts.{words_of};
+ghost use Rattle.dim_stack.specs.Names.{IsNamedBy};
+ghost use Rattle.dim_signature.specs.Sorted.{AreSorted};
+ghost use Rattle.dim_history_file.specs.Faults.{fault, fault_of, kind_of};
+ghost use Rattle.dim_history_file.specs.Value.{named_stack};
+ghost use Rattle.dim_history_file.specs.Judging.{head_line, signature_line, end_line, due_line, stack_line, is_less_than_last, step, at_end, start, with_signature};
+ghost use Rattle.dim_history_file.specs.Naming.{Covers, names_in_line};
+
+use crate::fault::{Stop, in_line};
+use crate::frames::stack;
+use crate::signing::{enter, signature};
+use crate::words::{number_from, one_word, two_words, unless};
+use crate::{FileKind, ReadFault};
+use dim_signature::Catalogue;
+use dim_stack::{Names, Stack, compare};
+use dim_text::{Parts, number};
+use std::alloc::Global;
+
+/// How many signatures a history has at most.
+const MOST: u32 = 4096;
+
+/// What is due.
+#[derive(Clone, Copy, Debug, PartialEq, Eq)]
+pub enum Stage {
+    /// The first line.
+    Head,
+    /// A signature or the end.
+    Due,
+    /// A stack of a signature with this depth and so many stacks.
+    Stacks { depth: u8, count: u32 },
+    /// Nothing more.
+    Closed,
+}
+
+/// What has been read so far.
+#[derive(Drop)]
+pub struct Reader {
+    pub stage: Stage,
+    // The names of all functions of the text.
+    pub names: Names,
+    pub catalogue: Catalogue,
+    // The stacks of the signature that is being read.
+    pub stacks: Vec<Stack>,
+}
+
+impl Reader {
+    ghost use Rattle.dim_history_file.specs.Reader.{IsReading, sigs_of, state_of, begun_of};
+    ghost use Rattle.dim_history_file.specs.Grammar.{Fits, IsBegun};
+
+    /// Nothing yet.
+    pub fn new(alloc: Global, names: Names) -> Reader
+        ensures state { state_of result ≡ start }
+        ensures names { result.names ≡ names }
+        ensures reading { IsReading result }
+    {
+        let _few = names.len();
+        Reader {
+            stage: Stage::Head,
+            names,
+            catalogue: Catalogue::new(alloc),
+            stacks: Vec::new(alloc),
+        }
+    }
+
+    // `dim history 1`
+    #[tactic(auto, unfolding(crate::specs::Judging::head_line))]
+    fn head_line(&mut self, line: &[u8]) -> Result<(), FileKind>
+        ensures value { Leaves Some (state_of self.new) result (head_line (sigs_of self.old) line.now) }
+        ensures names { self.new.names ≡ self.old.names }
+        ensures reading { IsReading self.old → IsReading self.new }
+    {
+        unless(line != b"dim history 1".as_slice(), FileKind::Head)?;
+        self.stage = Stage::Due;
+        Ok(())
+    }
+
+    // `signature DEPTH COUNT`
+    #[tactic(auto, unfolding(crate::specs::Judging::signature_line))]
+    fn signature_line(&mut self, words: &mut Parts) -> Result<(), FileKind>
+        ensures value { Leaves Some (state_of self.new) result (signature_line (sigs_of self.old) words.old) }
+        ensures names { self.new.names ≡ self.old.names }
+        ensures reading { IsReading self.old → IsReading self.new }
+    {
+        let (first, second) = two_words(words)?;
+        unless(self.catalogue.len() == MOST, FileKind::Limit)?;
+        let depth = number_from(first, 1, 32).ok_or(FileKind::Number)?;
+        let count = number_from(second, 2, 32).ok_or(FileKind::Number)?;
+        self.stacks.clear();
+        self.stage = Stage::Stacks {
+            depth: depth as u8,
+            count,
+        };
+        Ok(())
+    }
+
+    // `end N`
+    #[tactic(auto, unfolding(crate::specs::Judging::end_line))]
+    fn end_line(&mut self, words: &mut Parts) -> Result<(), FileKind>
+        ensures value { Leaves Some (state_of self.new) result (end_line (sigs_of self.old) words.old) }
+        ensures names { self.new.names ≡ self.old.names }
+        ensures reading { IsReading self.old → IsReading self.new }
+    {
+        let word = one_word(words)?;
+        let n = number(word, MOST).ok_or(FileKind::Number)?;
+        unless(n != self.catalogue.len(), FileKind::Count)?;
+        self.stage = Stage::Closed;
+        Ok(())
+    }
+
+    // A line where a signature or the end is due.
+    #[tactic(auto, unfolding(crate::specs::Judging::due_line))]
+    fn due_line(&mut self, words: &mut Parts) -> Result<(), FileKind>
+        ensures value { Leaves Some (state_of self.new) result (due_line (sigs_of self.old) words.old) }
+        ensures names { self.new.names ≡ self.old.names }
+        ensures reading { IsReading self.old → IsReading self.new }
+    {
+        match words.next_part() {
+            Some(first) if first == b"signature".as_slice() => self.signature_line(words),
+            Some(first) if first == b"end".as_slice() => self.end_line(words),
+            _ => Err(FileKind::Line),
+        }
+    }
+
+    // Whether a stack is less than the last that was read.
+    fn is_less_than_last(&self, stack: &Stack) -> bool
+        requires reading { IsReading self.now }
+        requires named { IsNamedBy self.now.names stack.now }
+        ensures { result ≡ is_less_than_last (named_stack self.now.names stack.now) (map (named_stack self.now.names) self.now.stacks.items) }
+    {
+        match self.stacks.last() {
+            Some(last) => compare(stack, last).is_lt(),
+            None => false,
+        }
+    }
+
+    // Makes the signature of the stacks that were read.
+    fn end_signature(&mut self, alloc: Global, depth: u8) -> Result<(), Stop>
+        requires reading { IsReading self.old }
+        requires sorted { AreSorted self.old.stacks.items }
+        requires few { length self.old.stacks.items < 2 ^ 32 }
+        requires room { length self.old.catalogue.sigs < 4096 }
+        ensures value { Leaves kind_of (state_of self.new) result (with_signature (sigs_of self.old) record {
+          depth = depth;
+          stacks = map (named_stack self.old.names) self.old.stacks.items;
+        }) }
+        ensures names { self.new.names ≡ self.old.names }
+        ensures reading { OnOk result (IsReading self.new) }
+    {
+        let sig = signature(alloc, depth, &self.stacks)?;
+        self.stage = Stage::Due;
+        enter(&mut self.catalogue, sig)
+    }
+
+    // A stack of a signature with this depth and so many stacks.
+    #[tactic(auto, unfolding(crate::specs::Judging::stack_line))]
+    fn stack_line(&mut self, alloc: Global, depth: u8, count: u32, line: &[u8]) -> Result<(), Stop>
+        requires stage { self.old.stage ≡ Stage.Stacks depth count }
+        requires reading { IsReading self.old }
+        requires begun { IsBegun (sigs_of self.old) (begun_of self.old depth count) }
+        requires covers { Covers self.old.names (names_in_line line.now) }
+        ensures value { Leaves kind_of (state_of self.new) result (stack_line (sigs_of self.old) (begun_of self.old depth count) (words_of line.now)) }
+        ensures names { self.new.names ≡ self.old.names }
+        ensures reading { OnOk result (IsReading self.new) }
+    {
+        let stack = stack(alloc, &self.names, line)?;
+        unless(self.is_less_than_last(&stack), FileKind::Unsorted)?;
+        self.stacks.push(stack)?;
+        if self.stacks.len() < count as usize {
+            return Ok(());
+        }
+        self.end_signature(alloc, depth)
+    }
+
+    // Takes a line.
+    #[tactic(auto, unfolding(crate::specs::Judging::step))]
+    fn take(&mut self, alloc: Global, line: &[u8]) -> Result<(), Stop>
+        requires reading { IsReading self.old }
+        requires fits { Fits (state_of self.old) }
+        requires covers { Covers self.old.names (names_in_line line.now) }
+        ensures value { Leaves kind_of (state_of self.new) result (step (state_of self.old) line.now) }
+        ensures names { self.new.names ≡ self.old.names }
+        ensures reading { OnOk result (IsReading self.new) }
+    {
+        match self.stage {
+            Stage::Head => self.head_line(line)?,
+            Stage::Due => self.due_line(&mut Parts::words(line))?,
+            Stage::Stacks { depth, count } => self.stack_line(alloc, depth, count, line)?,
+            Stage::Closed => return Err(Stop::Bad(FileKind::Rest)),
+        }
+        Ok(())
+    }
+
+    /// Reads the line of this number.
+    pub fn step(&mut self, alloc: Global, number: u32, line: &[u8]) -> Result<(), ReadFault>
+        requires reading { IsReading self.old }
+        requires fits { Fits (state_of self.old) }
+        requires covers { Covers self.old.names (names_in_line line.now) }
+        ensures value { Leaves fault_of (state_of self.new) result (in_line fault number (step (state_of self.old) line.now)) }
+        ensures names { self.new.names ≡ self.old.names }
+        ensures reading { OnOk result (IsReading self.new) }
+    {
+        in_line(number, self.take(alloc, line))
+    }
+
+    /// Whether the text may end here.
+    #[tactic(auto, unfolding(crate::specs::Judging::at_end))]
+    pub fn finish(&self, last: &[u8]) -> Result<(), Stop>
+        ensures { Gives kind_of (λ _. sigs_of self.now) result (at_end (state_of self.now) last.now) }
+    {
+        match self.stage {
+            Stage::Closed if last.is_empty() => Ok(()),
+            Stage::Head => Err(Stop::Bad(FileKind::Head)),
+            Stage::Closed => Err(Stop::Bad(FileKind::Rest)),
+            Stage::Due | Stage::Stacks { .. } => Err(Stop::Bad(FileKind::Line)),
+        }
+    }
+}

@@ -1,0 +1,37 @@
+//! Signatures of stacks that stand in order, and a catalogue that takes them.
+ghost use Rattle.std.specs.Prelude.{◌≡◌, ◌<◌, ◌≤◌, ◌^◌, length, IfOk};
+ghost use Rattle.dim_text.specs.Reading.{Leaves};
+ghost use Rattle.dim_signature.specs.Sorted.{AreSorted};
+ghost use Rattle.dim_history_file.specs.Faults.{kind_of};
+ghost use Rattle.dim_history_file.specs.Signing.{entered};
+
+use crate::FileKind;
+use crate::fault::Stop;
+use dim_base::OutOfMemory;
+use dim_signature::{Add, Catalogue, Signature};
+use dim_stack::Stack;
+use std::alloc::Global;
+
+/// The signature of 2 to 32 stacks in order, with a depth from 1 to 32.
+pub fn signature(alloc: Global, depth: u8, stacks: &[Stack]) -> Result<Signature, OutOfMemory>
+    requires few { length stacks.now < 2 ^ 32 }
+    requires sorted { AreSorted stacks.now }
+    ensures { IfOk result (λ s. s ≡ record { depth = depth; stacks = stacks.now }) }
+{
+    match Signature::new(alloc, depth, stacks) {
+        Ok(sig) => Ok(sig),
+        Err(_) => Err(OutOfMemory),
+    }
+}
+
+/// Appends a signature to fewer than 4,096, or finds that one has the same stacks.
+pub fn enter(catalogue: &mut Catalogue, sig: Signature) -> Result<(), Stop>
+    requires { length catalogue.old.sigs < 4096 }
+    ensures { Leaves kind_of catalogue.new.sigs result (entered catalogue.old.sigs sig) }
+{
+    match catalogue.add(sig) {
+        Ok(_) => Ok(()),
+        Err(Add::Known { .. }) => Err(Stop::Bad(FileKind::Double)),
+        Err(_) => Err(Stop::OutOfMemory),
+    }
+}

@@ -1,0 +1,13 @@
+//! The monitor: a second graph of a history, of the entries that it is told, and what is stuck in it.
+#![tactic(auto)]
+
+mod cycles;
+pub mod laws;
+mod monitor;
+mod search;
+mod stuck;
+#[cfg(test)]
+mod tests;
+
+pub use cycles::Cycles;
+pub use monitor::Monitor;
