@@ -1,0 +1,13 @@
+pub mod BuildLemmas
+pub mod CallLemmas
+pub mod CourseLemmas
+pub mod GrownLemmas
+pub mod HeadlineLemmas
+pub mod InputLemmas
+pub mod LineLemmas
+pub mod ReportLemmas
+pub mod RowLemmas
+pub mod RunLemmas
+pub mod ShowLemmas
+pub mod TopLemmas
+pub mod WordLemmas

@@ -1,0 +1,11 @@
+pub mod Commands
+pub mod Course
+pub mod Grown
+pub mod Headline
+pub mod Inputs
+pub mod Output
+pub mod Parting
+pub mod Report
+pub mod Sinks
+pub mod Top
+pub mod Words
