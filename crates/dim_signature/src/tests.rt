@@ -160,3 +160,23 @@ fn a_copy_has_the_same_signatures(rt: HostRuntime) -> Result<(), Fail> {
     assert_eq!(rt; copy.find(&pair(7)), Some(2));
     Ok(())
 }
+
+#[test]
+fn a_catalogue_has_room_for_4096_signatures(rt: HostRuntime) -> Result<(), Fail> {
+    let alloc = rt.alloc();
+    let mut catalogue = Catalogue::new(alloc);
+    for number in 0..4096 {
+        assert_eq!(rt;
+            catalogue.add(Signature::new(alloc, 4, &pair(number))?)?,
+            number
+        );
+    }
+    let more = catalogue.add(Signature::new(alloc, 4, &pair(4096))?);
+    assert_eq!(rt; more, Err(Add::Full));
+    let known = catalogue.add(Signature::new(alloc, 9, &pair(17))?);
+    assert_eq!(rt; known, Err(Add::Known { index: 17 }));
+    assert_eq!(rt; catalogue.len(), 4096);
+    assert_eq!(rt; catalogue.find(&pair(4095)), Some(4095));
+    assert_eq!(rt; catalogue.find(&pair(4096)), None);
+    Ok(())
+}
