@@ -17,7 +17,7 @@ use Rattle.dim_asm.specs.Code.{Code, Function, lock_count, func_count, func_name
 use Rattle.dim_asm.specs.Bound.{own_names, numbered, bound, KeptLaw, NumbersLaw, LastLaw, OwnNamesLaw, MergedLaw}
 
 -- ---- what binding keeps
-names-numbered : (names : List (List ℕ)) (fs : List Function) → func_names (map (numbered names) fs) ≡ func_names fs
+pub names-numbered : (names : List (List ℕ)) (fs : List Function) → func_names (map (numbered names) fs) ≡ func_names fs
 names-numbered names [] = refl
 names-numbered names (f ∷ fs) = ap (λ ns. f.name ∷ ns) (names-numbered names fs)
 

@@ -21,7 +21,7 @@ use Rattle.dim_asm.proofs.Judgements.{Placed, judged_placed}
 use Rattle.dim_text.proofs.ReadingLemmas.{bind_ok}
 
 -- ---- names
-differ : (a b : List ℕ) → bytes_eq a b ≡ false → bytes_eq b a ≡ false
+pub differ : (a b : List ℕ) → bytes_eq a b ≡ false → bytes_eq b a ≡ false
 differ a b e =
     elim (cases_Bool (bytes_eq b a)) [
       | inl same ↦
@@ -30,7 +30,7 @@ differ a b e =
       | inr differs ↦ differs
     ]
 
-or_false : (a b : Bool) → (a || b) ≡ false → (a ≡ false) × (b ≡ false)
+pub or_false : (a b : Bool) → (a || b) ≡ false → (a ≡ false) × (b ≡ false)
 or_false true b e = cc
 or_false false b e = (refl, e)
 
@@ -73,7 +73,7 @@ ended-push [] f h = tt
 ended-push (g ∷ []) f h = (h.0, tt)
 ended-push (g ∷ k ∷ funcs) f h = (h.0, ended-push (k ∷ funcs) f h.1)
 
-last_size-more : (f g : DraftFunction) (funcs : List DraftFunction) → last_size (f ∷ g ∷ funcs) ≡ last_size (g ∷ funcs)
+pub last_size-more : (f g : DraftFunction) (funcs : List DraftFunction) → last_size (f ∷ g ∷ funcs) ≡ last_size (g ∷ funcs)
 last_size-more f g funcs =
     let longer : suc (suc (length funcs)) - 1 ≡ suc (length funcs) = omega arith in
     let shorter : suc (length funcs) - 1 ≡ length funcs = omega arith in

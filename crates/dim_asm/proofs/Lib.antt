@@ -7,3 +7,9 @@ pub mod Judgements
 pub mod Fitting
 pub mod Endings
 pub mod BoundLemmas
+pub mod Printed
+pub mod Judged
+pub mod Sources
+pub mod Naming
+pub mod Unlinked
+pub mod Texts

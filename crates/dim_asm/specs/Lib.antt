@@ -11,3 +11,4 @@ pub mod Reader
 pub mod Grammar
 pub mod Spelling
 pub mod Tables
+pub mod Printing

@@ -5,11 +5,14 @@ mod assembler;
 mod binding;
 mod draft;
 mod fault;
+mod laws;
 mod linker;
 mod mnemonic;
 mod op;
+mod printing;
 mod program;
 mod reader;
+mod spelling;
 mod start;
 mod statement;
 mod symbols;
@@ -17,9 +20,13 @@ mod symbols;
 pub use assembler::assemble;
 pub use binding::bind_law;
 pub use fault::{AsmError, AsmFault, AsmKind};
+pub use laws::text_law;
 pub use op::Op;
+pub use printing::print;
 pub use program::Program;
 pub use start::Start;
 
+#[cfg(test)]
+mod print_tests;
 #[cfg(test)]
 mod tests;

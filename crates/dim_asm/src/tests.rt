@@ -10,7 +10,7 @@ use std::fmt::Write;
 use std::test::Fail;
 
 // Two functions that take two locks in turn.
-const DOORS: &str = "dim program 1
+pub const DOORS: &str = "dim program 1
 lock a
 lock b
 func left 0
@@ -148,7 +148,7 @@ fn an_instruction_has_its_own_faults(rt: HostRuntime) -> Result<(), Fail> {
 }
 
 // A philosopher takes the forks to both sides, and lays them down.
-const PHILOSOPHER: &[u8] =
+pub const PHILOSOPHER: &[u8] =
     b"dim program 1\nlock f0\nlock f1\nlock f2\nlock f3\nlock f4\nfunc phil 1\nPUTL 0\nGETL 0\nLOCKX\nGETL 0\nPUSH 4\nEQ\nJZ 9\nPUSH 0\nJMP 12\nGETL 0\nPUSH 1\nADD\nDUP\nLOCKX\nUNLOCKX\nGETL 0\nUNLOCKX\nRET\nend\nthread phil 0\nthread phil 1\nthread phil 2\nthread phil 3\nthread phil 4\nend program\n";
 
 #[test]
@@ -176,7 +176,7 @@ fn functions_are_numbered_by_their_names(rt: HostRuntime) -> Result<(), Fail> {
 }
 
 // The table of the names of two programs.
-fn both_names(alloc: Global, p: &Program, q: &Program) -> Result<Names, OutOfMemory>
+pub fn both_names(alloc: Global, p: &Program, q: &Program) -> Result<Names, OutOfMemory>
     ensures { IfOk result (λ names. KnowsFuncs names p.now) }
 {
     bind_law();
