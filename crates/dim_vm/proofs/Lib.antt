@@ -11,3 +11,5 @@ mod Turns
 pub mod OwnModes
 pub mod OwnWalks
 mod OwnHolds
+mod OwnStacks
+mod NamedFrames

@@ -12,4 +12,5 @@ pub mod Moves
 pub mod Slice
 pub mod Turns
 pub mod Walks
+pub mod Stacks
 pub mod Laws

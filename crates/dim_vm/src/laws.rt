@@ -1,5 +1,6 @@
-//! Laws of a thread's own entries and of walks.
+//! Laws of a thread's own entries, of walks, and of the stacks in them.
 ghost use Rattle.dim_vm.specs.Laws.{OwnEntriesLaw, OwnHistoryLaw, OwnWalksLaw};
+ghost use Rattle.dim_vm.specs.Stacks.{AskedLaw, NamedLaw};
 
 /// A thread's own entries, where they are a walk, say how it stands, in which mode it is, and what it holds.
 pub fn own_entries_law()
@@ -14,4 +15,11 @@ pub fn own_history_law()
 /// A history that fits is a walk exactly where each thread's own entries are one.
 pub fn own_walks_law()
     ensures { OwnWalksLaw }
+{}
+
+/// The stacks with which threads ask, in a walk: each frame is at an instruction of the program. Where the program is bound to a table of names, the
+/// function of such a frame has a name in the table, and its offset is at most 65,535.
+pub fn stacks_law()
+    ensures asked { AskedLaw }
+    ensures named { NamedLaw }
 {}

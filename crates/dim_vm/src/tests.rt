@@ -1,42 +1,133 @@
-//! Small runs through a door of one thread alone.
+//! Runs of a thread alone: what each instruction does, each trap, what moves cost, and polls.
 ghost use Rattle.std.specs.Prelude.{◌≤◌, ◌<◌, ◌^◌};
 
-use crate::machine::Machine;
-use crate::tests::fake::{Fake, Script};
-
+mod entries;
 mod fake;
+mod instructions;
+mod polls;
+mod traps;
+mod units;
 
+use crate::machine::Machine;
 use crate::state::State;
+use crate::tests::fake::{Fake, Script};
 use dim_asm::{Program, assemble};
 use dim_base::{Lid, OutOfMemory, Tid};
 use dim_rag::Why;
 use std::alloc::Global;
+use std::process::Abort;
 use std::test::Fail;
 
-// Two units for a call and its return, and then a lock that is taken and given back.
-const TAKES: &[u8] =
-    b"dim program 1\nlock a\nfunc main 0\nCALL back\nLOCK a\nUNLOCK a\nRET\nend\nfunc back 0\nRET\nend\nthread main 0\nend program\n";
+// The code of a case stands between these two, as the instructions of `main`, whose thread has the argument 7.
+const BEFORE: &str = "dim program 1
+lock a
+lock b
+func main 2
+";
 
-const CALLS_ITSELF: &[u8] =
-    b"dim program 1\nfunc main 0\nCALL main\nend\nthread main 0\nend program\n";
+const BEHIND: &str = "end
+func sets 2
+PUSH 5
+PUTL 1
+RET
+end
+func reads 2
+GETL 1
+RET
+end
+func has_16 16
+PUSH 5
+PUTL 15
+GETL 14
+GETL 15
+RET
+end
+func reads_the_17th 16
+GETL 16
+end
+func has_none 0
+GETL 0
+end
+func takes 0
+POP
+LOCK a
+RET
+end
+func deeper 0
+CALL deeper
+end
+func falls_off 0
+POP
+end
+func halts 0
+HALT
+end
+thread main 7
+end program
+";
 
-const TAKES_TWICE: &[u8] =
-    b"dim program 1\nlock a\nfunc main 0\nLOCK a\nLOCK a\nend\nthread main 0\nend program\n";
+const A: Lid = Lid(0);
 
-const FALLS_OFF: &[u8] =
-    b"dim program 1\nfunc main 0\nCALL back\nend\nfunc back 0\nRET\nend\nthread main 0\nend program\n";
+const FREE: Script = Script {
+    yields: 0,
+    stills: 0,
+    busys: 0,
+};
 
-// What a run came to.
-#[derive(Clone, Copy, Debug)]
+/// The moves of a slice, and how all stands after it.
+#[derive(Clone, Copy, Debug, PartialEq, Eq)]
 struct Outcome {
     moves: u32,
-    state: State,
-    entries: usize,
     units: u32,
+    state: State,
+    asks: u64,
+    entries: usize,
+}
+
+/// What a thread has said.
+#[derive(Clone, Copy, Debug, PartialEq, Eq)]
+struct Sayings {
+    said: u64,
+    last: i64,
+}
+
+fn program_of(alloc: Global, code: &str) -> Result<Program, Fail> {
+    let text = format!(in alloc; "{BEFORE}{code}\n{BEHIND}")?;
+    Ok(assemble(alloc, text.as_bytes())?)
 }
 
 // One slice of a program's first thread.
-fn run(
+fn slice_of(
+    alloc: Global,
+    program: &Program,
+    fuel: u32,
+    q: u32,
+    script: Script,
+) -> Result<(Outcome, Sayings), OutOfMemory>
+    requires some { 1 ≤ q }
+    requires few { q < 2 ^ 20 }
+{
+    let _some = program.threads();
+    let mut machine = Machine::new(program, Tid(0), fuel);
+    let mut door = Fake::new(alloc, Tid(0), program.locks(), q + 1, script)?;
+    let slice = machine.slice(program, &mut door, q);
+    let outcome = Outcome {
+        moves: slice.moves,
+        units: machine.units(),
+        state: slice.state,
+        asks: door.asks(),
+        entries: door.entries().len(),
+    };
+    let sayings = Sayings {
+        said: machine.said(),
+        last: machine.last(),
+    };
+    Ok((outcome, sayings))
+}
+
+// The second of two slices of a program's first thread.
+fn second_slice_of(
+    rt: &impl Abort,
     alloc: Global,
     program: &Program,
     fuel: u32,
@@ -48,23 +139,43 @@ fn run(
 {
     let _some = program.threads();
     let mut machine = Machine::new(program, Tid(0), fuel);
-    let mut door = Fake::new(alloc, Tid(0), program.locks(), q + 1, script)?;
-    let slice = machine.slice(program, &mut door, q);
+    let mut door = Fake::new(alloc, Tid(0), program.locks(), 2 * q + 2, script)?;
+    let first = machine.slice(program, &mut door, q);
+    assert!(rt; first.moves <= q);
+    let second = machine.slice(program, &mut door, q);
     Ok(Outcome {
-        moves: slice.moves,
-        state: slice.state,
-        entries: door.entries().len(),
+        moves: second.moves,
         units: machine.units(),
+        state: second.state,
+        asks: door.asks(),
+        entries: door.entries().len(),
     })
 }
 
-const A: Lid = Lid(0);
+// A slice of at most so many moves, or of one, of a code.
+fn run(
+    alloc: Global,
+    code: &str,
+    fuel: u32,
+    q: u16,
+    script: Script,
+) -> Result<(Outcome, Sayings), Fail> {
+    let program = program_of(alloc, code)?;
+    Ok(slice_of(alloc, &program, fuel, u32::from(q).max(1), script)?)
+}
 
-const FREE: Script = Script {
-    yields: 0,
-    stills: 0,
-    busys: 0,
-};
+// The second of two slices of a code.
+fn run_again(
+    rt: &impl Abort,
+    alloc: Global,
+    code: &str,
+    fuel: u32,
+    q: u16,
+    script: Script,
+) -> Result<Outcome, Fail> {
+    let program = program_of(alloc, code)?;
+    Ok(second_slice_of(rt, alloc, &program, fuel, u32::from(q).max(1), script)?)
+}
 
 fn trapped(trap: u8) -> State {
     State::Ended {
@@ -72,71 +183,14 @@ fn trapped(trap: u8) -> State {
     }
 }
 
+const DONE: State = State::Ended { why: Why::Done };
+
+const SPENT: State = State::Ended { why: Why::Spent };
+
 fn script(yields: u32, stills: u32, busys: u32) -> Script {
     Script {
         yields,
         stills,
         busys,
     }
-}
-
-#[test]
-fn a_request_needs_two_units(rt: HostRuntime) -> Result<(), Fail> {
-    let program = assemble(rt.alloc(), TAKES).expect(&rt, "a program");
-    let out = run(rt.alloc(), &program, 3, 100, FREE)?;
-    assert_eq!(rt; out.state, State::Ended { why: Why::Spent });
-    assert_eq!(rt; out.entries, 1);
-    Ok(())
-}
-
-#[test]
-fn a_thread_that_has_returned_is_done(rt: HostRuntime) -> Result<(), Fail> {
-    let program = assemble(rt.alloc(), TAKES).expect(&rt, "a program");
-    let out = run(rt.alloc(), &program, 6, 100, FREE)?;
-    assert_eq!(rt; out.state, State::Ended { why: Why::Done });
-    assert_eq!(rt; out.entries, 4);
-    assert_eq!(rt; out.units, 1);
-    Ok(())
-}
-
-#[test]
-fn a_busy_lock_ends_the_slice(rt: HostRuntime) -> Result<(), Fail> {
-    let program = assemble(rt.alloc(), TAKES).expect(&rt, "a program");
-    let out = run(rt.alloc(), &program, 6, 9, script(0, 0, 1))?;
-    assert_eq!(rt; out.state, State::Waits { l: A });
-    assert_eq!(rt; out.moves, 3);
-    Ok(())
-}
-
-#[test]
-fn a_yield_stands_still_until_it_is_woken(rt: HostRuntime) -> Result<(), Fail> {
-    let program = assemble(rt.alloc(), TAKES).expect(&rt, "a program");
-    let out = run(rt.alloc(), &program, 9, 9, script(1, 3, 0))?;
-    assert_eq!(rt; out.state, State::Yields { l: A });
-    Ok(())
-}
-
-#[test]
-fn calls_itself_too_deep(rt: HostRuntime) -> Result<(), Fail> {
-    let program = assemble(rt.alloc(), CALLS_ITSELF).expect(&rt, "a program");
-    let out = run(rt.alloc(), &program, 100, 100, FREE)?;
-    assert_eq!(rt; out.state, trapped(3));
-    assert_eq!(rt; out.moves, 31);
-    Ok(())
-}
-
-#[test]
-fn takes_a_lock_twice(rt: HostRuntime) -> Result<(), Fail> {
-    let program = assemble(rt.alloc(), TAKES_TWICE).expect(&rt, "a program");
-    let out = run(rt.alloc(), &program, 100, 100, FREE)?;
-    assert_eq!(rt; out.state, trapped(7));
-    Ok(())
-}
-
-#[test]
-fn falls_off_the_end(rt: HostRuntime) -> Result<(), Fail> {
-    let program = assemble(rt.alloc(), FALLS_OFF).expect(&rt, "a program");
-    let out = run(rt.alloc(), &program, 100, 100, FREE)?;
-    assert_eq!(rt; out.state, trapped(9));
-    Ok(())
 }

@@ -1,0 +1,193 @@
+//! Each trap, at each instruction that has it, and which goes before which.
+use super::{FREE, run, slice_of, trapped};
+use dim_asm::{Program, assemble};
+use std::alloc::Global;
+use std::fmt::Write;
+use std::process::Abort;
+use std::test::Fail;
+
+const UNDER: u8 = 1;
+
+const OVER: u8 = 2;
+
+const DEPTH: u8 = 3;
+
+const SUM: u8 = 4;
+
+const LOCAL: u8 = 5;
+
+const NO_LOCK: u8 = 6;
+
+const RELOCK: u8 = 7;
+
+const NOT_OWNER: u8 = 8;
+
+const FELL_OFF: u8 = 9;
+
+/// Codes, with the number of their trap, and the moves before it.
+const TRAPS: [(&str, u8, u32); 62] = [
+    ("POP\nPOP", UNDER, 1),
+    ("POP\nDUP", UNDER, 1),
+    ("POP\nSWAP", UNDER, 1),
+    ("SWAP", UNDER, 0),
+    ("POP\nADD", UNDER, 1),
+    ("ADD", UNDER, 0),
+    ("POP\nPUSH 9223372036854775807\nADD", UNDER, 2),
+    ("POP\nSUB", UNDER, 1),
+    ("SUB", UNDER, 0),
+    ("POP\nPUSH -9223372036854775808\nSUB", UNDER, 2),
+    ("POP\nLT", UNDER, 1),
+    ("LT", UNDER, 0),
+    ("POP\nEQ", UNDER, 1),
+    ("EQ", UNDER, 0),
+    ("POP\nJZ 0", UNDER, 1),
+    ("POP\nPUTL 0", UNDER, 1),
+    ("POP\nLOCKX", UNDER, 1),
+    ("POP\nUNLOCKX", UNDER, 1),
+    ("POP\nSAY", UNDER, 1),
+    // the argument, and 255 operands more
+    ("PUSH 1\nJMP 0", OVER, 510),
+    ("DUP\nJMP 0", OVER, 510),
+    ("GETL 0\nJMP 0", OVER, 510),
+    ("TRYLOCK a\nUNLOCK a\nJMP 0", OVER, 765),
+    // the outermost call, and 31 more
+    ("CALL deeper", DEPTH, 31),
+    ("PUSH 9223372036854775807\nADD", SUM, 1),
+    ("PUSH 9223372036854775807\nPUSH 1\nADD", SUM, 2),
+    ("PUSH -9223372036854775808\nPUSH -1\nADD", SUM, 2),
+    ("PUSH -9223372036854775808\nPUSH 1\nSUB", SUM, 2),
+    ("PUSH 9223372036854775807\nPUSH -1\nSUB", SUM, 2),
+    ("PUSH 0\nPUSH -9223372036854775808\nSUB", SUM, 2),
+    ("GETL 2", LOCAL, 0),
+    ("GETL 255", LOCAL, 0),
+    ("PUTL 2", LOCAL, 0),
+    ("PUTL 255", LOCAL, 0),
+    ("POP\nPUTL 2", LOCAL, 1),
+    ("CALL has_none", LOCAL, 1),
+    ("CALL reads_the_17th", LOCAL, 1),
+    ("PUSH -1\nLOCKX", NO_LOCK, 1),
+    ("PUSH 2\nLOCKX", NO_LOCK, 1),
+    ("PUSH 4294967296\nLOCKX", NO_LOCK, 1),
+    ("PUSH -9223372036854775808\nLOCKX", NO_LOCK, 1),
+    ("PUSH -1\nUNLOCKX", NO_LOCK, 1),
+    ("PUSH 2\nUNLOCKX", NO_LOCK, 1),
+    ("PUSH 4294967296\nUNLOCKX", NO_LOCK, 1),
+    ("LOCK a\nPUSH 4294967296\nUNLOCKX", NO_LOCK, 3),
+    ("LOCK a\nLOCK a", RELOCK, 2),
+    ("LOCK b\nPUSH 1\nLOCKX", RELOCK, 3),
+    ("PUSH 1\nLOCKX\nLOCK b", RELOCK, 3),
+    ("LOCK a\nTRYLOCK a", RELOCK, 2),
+    ("TRYLOCK a\nLOCK a", RELOCK, 1),
+    ("LOCK a\nUNLOCK a\nLOCK a\nLOCK a", RELOCK, 5),
+    ("UNLOCK a", NOT_OWNER, 0),
+    ("LOCK a\nUNLOCK b", NOT_OWNER, 2),
+    ("LOCK a\nUNLOCK a\nUNLOCK a", NOT_OWNER, 3),
+    ("TRYLOCK a\nUNLOCK a\nUNLOCK a", NOT_OWNER, 2),
+    ("PUSH 1\nUNLOCKX", NOT_OWNER, 1),
+    ("PUSH 1\nLOCKX\nUNLOCK a", NOT_OWNER, 3),
+    ("LOCK a\nPUSH 1\nUNLOCKX", NOT_OWNER, 3),
+    ("POP", FELL_OFF, 1),
+    ("JMP 1", FELL_OFF, 1),
+    ("PUSH 0\nJZ 2", FELL_OFF, 2),
+    ("CALL falls_off\nRET", FELL_OFF, 2),
+];
+
+/// All operands that there may be: the argument, a 0 in each of 250 rounds that local 0 counts, and five more.
+const FULL: &str = "PUSH 0
+GETL 0
+PUSH 1
+ADD
+DUP
+PUTL 0
+PUSH 250
+EQ
+JZ 0
+PUSH 0
+PUSH 0
+PUSH 0
+PUSH 0
+PUSH 0
+";
+
+const MOVES_OF_FULL: u32 = 250 * 9 + 5;
+
+/// The same, where all operands are there.
+const TRAPS_WHEN_FULL: [(&str, u8, u32); 9] = [
+    ("PUSH 1", OVER, 0),
+    ("DUP", OVER, 0),
+    ("GETL 1", OVER, 0),
+    ("GETL 2", LOCAL, 0),
+    ("TRYLOCK a", OVER, 0),
+    ("LOCK a\nTRYLOCK a", RELOCK, 2),
+    ("POP\nPUSH 1\nPUSH 1", OVER, 2),
+    ("ADD\nDUP\nDUP", OVER, 2),
+    ("SWAP\nPUTL 1\nGETL 1\nGETL 1", OVER, 3),
+];
+
+const FUEL: u32 = 4_096;
+
+// A code traps after so many moves. A trap pays nothing, and its End isn't a move.
+fn assert_trap(
+    rt: &impl Abort,
+    alloc: Global,
+    code: &str,
+    trap: u8,
+    moves: u32,
+) -> Result<(), Fail> {
+    let (outcome, _sayings) = run(alloc, code, FUEL, 4_096, FREE)?;
+    assert_eq!(rt; outcome.state, trapped(trap), "{code}");
+    assert_eq!(rt; outcome.moves, moves, "{code}");
+    assert_eq!(rt; outcome.units, FUEL.saturating_sub(moves), "{code}");
+    Ok(())
+}
+
+#[test]
+fn what_traps(rt: HostRuntime) -> Result<(), Fail> {
+    for (code, trap, moves) in TRAPS {
+        assert_trap(&rt, rt.alloc(), code, trap, moves)?;
+    }
+    Ok(())
+}
+
+#[test]
+fn what_traps_when_all_operands_are_there(rt: HostRuntime) -> Result<(), Fail> {
+    for (code, trap, moves) in TRAPS_WHEN_FULL {
+        let code = format!(in rt.alloc(); "{FULL}{code}")?;
+        assert_trap(
+            &rt,
+            rt.alloc(),
+            &code,
+            trap,
+            moves.saturating_add(MOVES_OF_FULL),
+        )?;
+    }
+    Ok(())
+}
+
+// A program with all locks that there may be.
+fn with_256_locks(alloc: Global, code: &str) -> Result<Program, Fail> {
+    let mut text = String::from_str(alloc, "dim program 1\n")?;
+    for n in 0..256 {
+        writeln!(text, "lock l{n}")?;
+    }
+    writeln!(text, "func main 0\n{code}\nend\nthread main 0\nend program")?;
+    Ok(assemble(alloc, text.as_bytes())?)
+}
+
+/// The same, where there are 256 locks.
+const TRAPS_WITH_256_LOCKS: [(&str, u8, u32); 3] = [
+    ("PUSH 255\nLOCKX\nLOCK l255", RELOCK, 3),
+    ("PUSH 255\nUNLOCKX", NOT_OWNER, 1),
+    ("PUSH 256\nLOCKX", NO_LOCK, 1),
+];
+
+#[test]
+fn what_traps_with_256_locks(rt: HostRuntime) -> Result<(), Fail> {
+    for (code, trap, moves) in TRAPS_WITH_256_LOCKS {
+        let program = with_256_locks(rt.alloc(), code)?;
+        let (outcome, _sayings) = slice_of(rt.alloc(), &program, FUEL, 99, FREE)?;
+        assert_eq!(rt; outcome.state, trapped(trap), "{code}");
+        assert_eq!(rt; outcome.moves, moves, "{code}");
+    }
+    Ok(())
+}
