@@ -19,3 +19,5 @@ mod Ends
 mod Starts
 mod Settled
 mod Finished
+mod Completes
+mod Spelled

@@ -7,4 +7,6 @@ pub mod Turn
 pub mod Settings
 pub mod Ends
 pub mod Executes
+pub mod Complete
+pub mod Spelled
 pub mod Run

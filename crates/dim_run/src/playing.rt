@@ -14,6 +14,7 @@ use crate::crew::Crew;
 use crate::finish::{Last, ends_of};
 use dim_asm::Program;
 use dim_base::{OutOfMemory, Tid};
+use dim_history_file::History;
 use dim_monitor::Monitor;
 use dim_rag::{Entry, Mode, Tables};
 use dim_signature::Catalogue;
@@ -40,27 +41,27 @@ pub struct Run {
     pub outcome: Outcome,
 }
 
-/// Runs a program from these signatures: its threads take turns under a gate, and a settle follows each round, until a round
-/// makes no move and its settle no Break.
+/// Runs a program from the signatures of a history, to whose names it is bound: its threads take turns under a gate, and a settle
+/// follows each round, until a round makes no move and its settle no Break. It needs at most 4,080 signatures.
 ///
 /// Each round takes its memory before its first move. The rules stand in docs/rules.md, under "Units, slices, rounds".
 pub fn play(
     alloc: Global,
     program: &Program,
-    loaded: &Catalogue,
+    history: &History,
     s: &Settings,
 ) -> Result<Run, OutOfMemory>
     requires settings { AreSettings s.now }
-    requires few { length loaded.now.sigs ≤ 4080 }
-    ensures entries { IfOk result (λ run. run.entries.items ≡ played program.now loaded.now.sigs s.now) }
-    ensures catalogue { IfOk result (λ run. run.catalogue.sigs ≡ known_sigs loaded.now.sigs s.now.depth (past run.entries.items)) }
-    ensures ends { IfOk result (λ run. run.ends.items ≡ ends_of program.now loaded.now.sigs s.now) }
+    requires few { length history.now.catalogue.sigs ≤ 4080 }
+    ensures entries { IfOk result (λ run. run.entries.items ≡ played program.now history.now.catalogue.sigs s.now) }
+    ensures catalogue { IfOk result (λ run. run.catalogue.sigs ≡ known_sigs history.now.catalogue.sigs s.now.depth (past run.entries.items)) }
+    ensures ends { IfOk result (λ run. run.ends.items ≡ ends_of program.now history.now.catalogue.sigs s.now) }
     ensures ends_by_entries { IfOk result (λ run. run.ends.items ≡ ends_after program.now s.now run.entries.items) }
     ensures outcome { IfOk result (λ run. run.outcome ≡ outcome_of program.now run.entries.items) }
-    ensures executes { IfOk result (λ run. Executes (rules_of program.now loaded.now.sigs s.now) run.entries.items) }
+    ensures executes { IfOk result (λ run. Executes (rules_of program.now history.now.catalogue.sigs s.now) run.entries.items) }
     ensures room { IfOk result (λ run. length run.entries.items ≤ 1048576) }
 {
-    let known = loaded.copy(alloc)?;
+    let known = history.catalogue.copy(alloc)?;
     let mut crew = Crew::new(alloc, program, known, s)?;
     play_on(&mut crew, program, s)?;
     let ends = ends_of(alloc, &crew.machines)?;
