@@ -6,6 +6,7 @@ mod words;
 mod writing;
 
 pub use trace::Trace;
+pub use words::lock_of;
 pub use writing::write_trace;
 
 #[cfg(test)]
