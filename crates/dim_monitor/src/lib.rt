@@ -4,7 +4,7 @@
 mod cycles;
 pub mod laws;
 mod monitor;
-mod search;
+pub mod search;
 mod stuck;
 #[cfg(test)]
 mod tests;
