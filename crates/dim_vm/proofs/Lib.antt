@@ -8,6 +8,7 @@ mod Words
 pub mod Stands
 mod Asks
 mod Turns
+mod Following
 pub mod OwnModes
 pub mod OwnWalks
 mod OwnHolds

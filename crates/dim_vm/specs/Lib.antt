@@ -14,3 +14,4 @@ pub mod Turns
 pub mod Walks
 pub mod Stacks
 pub mod Laws
+pub mod Following

@@ -1,5 +1,6 @@
 //! Machines.
 mod asking;
+mod following;
 mod turns;
 
 ghost use Rattle.std.specs.Prelude.{◌≡◌, ◌<◌, ◌≤◌, ◌+◌, length, []};

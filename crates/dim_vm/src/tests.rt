@@ -3,6 +3,7 @@ ghost use Rattle.std.specs.Prelude.{◌≤◌, ◌<◌, ◌^◌};
 
 mod entries;
 mod fake;
+mod following;
 mod instructions;
 mod polls;
 mod traps;

@@ -109,7 +109,7 @@ impl Machine {
     }
 
     /// Goes on behind an instruction that took a lock or gave it back.
-    fn pass(&mut self, l: Lid, held: bool, drops: bool)
+    pub(super) fn pass(&mut self, l: Lid, held: bool, drops: bool)
         requires units { 1 ≤ self.old.units }
         requires lock { l.0 < 256 }
         requires at { (top_frame self.old.context.frames).at < 65536 }
@@ -121,7 +121,7 @@ impl Machine {
     }
 
     /// Pays a unit for a move after which it asks for nothing.
-    fn pay(&mut self)
+    pub(super) fn pay(&mut self)
         requires { 1 ≤ self.old.units }
         ensures { self.new ≡ record self.old { units = self.old.units - 1; state = State.Running } }
     {

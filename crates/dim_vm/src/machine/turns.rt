@@ -45,7 +45,7 @@ impl Machine {
     }
 
     /// Makes the next instruction for a unit if it is plain, and else shows what it is.
-    fn step(&mut self, program: &Program) -> Step
+    pub(super) fn step(&mut self, program: &Program) -> Step
         requires { 1 ≤ self.old.units }
         ensures step { IsStep program.now self.old result self.new }
         ensures found { IsFound program.now self.old.holds self.old.context (told_by self.old.context result self.new.context) }

@@ -1,0 +1,82 @@
+//! Machines that go on by entries that were made before.
+use super::program_of;
+use crate::machine::Machine;
+use dim_asm::Program;
+use dim_base::{Lid, Tid};
+use dim_rag::{Entry, Why};
+use dim_stack::{Frame, Stack};
+use std::test::Fail;
+
+const T: Tid = Tid(0);
+
+const A: Lid = Lid(0);
+
+const CODE: &str = "PUSH 1\nPOP\nLOCK a\nUNLOCK a\nHALT";
+
+// Whether the first thread of a program, with so much fuel, goes on by each of these entries, in order.
+fn follows(program: &Program, fuel: u32, may_end: bool, entries: &[Entry]) -> bool {
+    let _some = program.threads();
+    let mut machine = Machine::new(program, T, fuel);
+    for e in entries {
+        if !machine.follow(program, e, may_end) {
+            return false;
+        }
+    }
+    true
+}
+
+fn go(program: &Program, at: u32) -> Entry {
+    Entry::Go {
+        t: T,
+        l: A,
+        stack: Stack::new(&[Frame {
+            func: program.number(0),
+            at,
+        }]),
+    }
+}
+
+const GOT: Entry = Entry::Got { t: T, l: A };
+
+const FREE: Entry = Entry::Free { t: T, l: A };
+
+fn end(t: Tid, why: Why) -> Entry {
+    Entry::End { t, why }
+}
+
+#[test]
+fn a_machine_goes_on_by_its_own_entries(rt: HostRuntime) -> Result<(), Fail> {
+    let program = program_of(rt.alloc(), CODE)?;
+    let own = [go(&program, 2), GOT, FREE, end(T, Why::Done)];
+    assert!(rt; follows(&program, 99, true, &own));
+    assert!(rt; !follows(&program, 99, true, &[GOT]));
+    assert!(rt; !follows(&program, 99, true, &[go(&program, 3)]));
+    assert!(rt; !follows(&program, 99, true, &[go(&program, 2), GOT, GOT]));
+    assert!(rt;
+        !follows(
+            &program,
+            99,
+            true,
+            &[go(&program, 2), GOT, FREE, end(Tid(1), Why::Done)]
+        )
+    );
+    Ok(())
+}
+
+#[test]
+fn a_machine_ends_as_spent_without_units(rt: HostRuntime) -> Result<(), Fail> {
+    let program = program_of(rt.alloc(), CODE)?;
+    let spent = [go(&program, 2), GOT, end(T, Why::Spent)];
+    assert!(rt; follows(&program, 4, false, &spent));
+    assert!(rt; !follows(&program, 5, true, &spent));
+    Ok(())
+}
+
+#[test]
+fn a_machine_with_a_unit_ends_as_spent_where_it_may(rt: HostRuntime) -> Result<(), Fail> {
+    let program = program_of(rt.alloc(), CODE)?;
+    assert!(rt; follows(&program, 3, true, &[end(T, Why::Spent)]));
+    assert!(rt; !follows(&program, 3, false, &[end(T, Why::Spent)]));
+    assert!(rt; !follows(&program, 3, true, &[go(&program, 2)]));
+    Ok(())
+}
