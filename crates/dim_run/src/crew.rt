@@ -6,6 +6,7 @@ ghost use Rattle.dim_rag.specs.Fits.{Fits, AreInRange};
 ghost use Rattle.dim_gate.specs.Gate.{constants};
 ghost use Rattle.dim_gate.specs.Legal.{Legal};
 ghost use Rattle.dim_run.specs.Rules.{gate_of};
+ghost use Rattle.dim_run.specs.Schedule.{later, moves_by};
 ghost use Rattle.dim_run.specs.Played.{machines_at, starts};
 ghost use Rattle.dim_run.specs.Settings.{AreSettings};
 ghost use Rattle.dim_run.specs.Settle.{IsTwin};
@@ -13,6 +14,7 @@ ghost use Rattle.dim_run.specs.Crew.{rules_of, first_gate, IsMachineOf, HasSlice
 
 use crate::Settings;
 use crate::door::GateDoor;
+use crate::schedule::Schedule;
 use dim_asm::Program;
 use dim_base::{OutOfMemory, Tid};
 use dim_gate::GateState;
@@ -81,55 +83,62 @@ impl Crew {
         self.monitor.reserve(entries)
     }
 
-    /// Thread t takes a slice. It answers the moves made.
-    fn slice(&mut self, program: &Program, s: &Settings, t: u32) -> u32
+    /// Thread t takes the next slice of the schedule. It answers the moves made.
+    fn slice(&mut self, program: &Program, s: &Settings, schedule: &mut Schedule, t: u32) -> u32
         requires in_step { InStep (rules_of program.now self.old.door.gate.loaded s.now) self.old.door.gate self.old.machines.items }
         requires low { t < thread_count program.now }
         requires some { 1 ≤ s.now.quantum }
         requires room { s.now.quantum + 1 ≤ self.old.door.gate.spare }
-        ensures advances { Advances (rules_of program.now self.old.door.gate.loaded s.now) t result self.old.door.gate self.new.door.gate self.old.machines.items self.new.machines.items }
+        ensures advances { Advances (rules_of program.now self.old.door.gate.loaded s.now) t (moves_by s.now.quantum schedule.old.words) result self.old.door.gate self.new.door.gate self.old.machines.items self.new.machines.items }
+        ensures most { moves_by s.now.quantum schedule.old.words ≤ s.now.quantum }
         ensures spare { self.old.door.gate.spare ≤ self.new.door.gate.spare + result + 1 }
         ensures monitor { self.new.monitor ≡ self.old.monitor }
+        ensures left { schedule.new.words ≡ later 1 schedule.old.words }
     {
         take_slice(
             &mut self.machines[t as usize],
             &mut self.door,
             program,
             s,
+            schedule,
             Tid(t),
         )
     }
 
-    /// Each thread takes one slice, in the order of their numbers. It answers the moves made.
-    fn slices(&mut self, program: &Program, s: &Settings) -> u32
+    /// Each thread takes one slice, in the order of the schedule. It answers the moves made.
+    fn slices(&mut self, program: &Program, s: &Settings, schedule: &mut Schedule) -> u32
         requires in_step { InStep (rules_of program.now self.old.door.gate.loaded s.now) self.old.door.gate self.old.machines.items }
         requires some { 1 ≤ s.now.quantum }
         requires room { thread_count program.now * (s.now.quantum + 1) + 48 ≤ self.old.door.gate.spare }
         requires few { room_in self.old.machines.items < 2 ^ 32 }
-        ensures turns { Turns (rules_of program.now self.old.door.gate.loaded s.now) (thread_count program.now) result self.old.door.gate self.new.door.gate self.old.machines.items self.new.machines.items }
+        ensures turns { Turns (rules_of program.now self.old.door.gate.loaded s.now) schedule.old.words (thread_count program.now) result self.old.door.gate self.new.door.gate self.old.machines.items self.new.machines.items }
         ensures room { 48 ≤ self.new.door.gate.spare }
         ensures monitor { self.new.monitor ≡ self.old.monitor }
+        ensures left { schedule.new.words ≡ later (thread_count program.now + 1) schedule.old.words }
     {
+        let first = schedule.first(program.threads());
         let mut moves = 0;
-        for t in 0..program.threads() {
-            moves += self.slice(program, s, t);
+        for i in 0..program.threads() {
+            let t = (first + i) % program.threads();
+            moves += self.slice(program, s, schedule, t);
         }
         moves
     }
 
-    /// Each thread takes one slice, in the order of their numbers, and a settle follows. It answers whether there was a move or a Break.
-    pub fn round(&mut self, program: &Program, s: &Settings) -> bool
+    /// Each thread takes one slice, in the order of the schedule, and a settle follows. It answers whether there was a move or a Break.
+    pub fn round(&mut self, program: &Program, s: &Settings, schedule: &mut Schedule) -> bool
         requires in_step { InStep (rules_of program.now self.old.door.gate.loaded s.now) self.old.door.gate self.old.machines.items }
         requires some { 1 ≤ s.now.quantum }
         requires twin { IsTwin self.old.door.gate self.old.monitor }
         requires room { thread_count program.now * (s.now.quantum + 1) + 48 ≤ self.old.door.gate.spare }
         requires monitor_room { thread_count program.now * (s.now.quantum + 1) + 48 ≤ self.old.monitor.spare }
         requires few { room_in self.old.machines.items < 2 ^ 32 }
-        ensures rounded { Rounded (rules_of program.now self.old.door.gate.loaded s.now) result self.old.door.gate self.new.door.gate self.old.machines.items self.new.machines.items }
+        ensures rounded { Rounded (rules_of program.now self.old.door.gate.loaded s.now) schedule.old.words result self.old.door.gate self.new.door.gate self.old.machines.items self.new.machines.items }
         ensures twin { IsTwin self.new.door.gate self.new.monitor }
+        ensures left { schedule.new.words ≡ later (thread_count program.now + 1) schedule.old.words }
     {
         let _few = program.threads();
-        let moves = self.slices(program, s);
+        let moves = self.slices(program, s, schedule);
         let breaks = self.door.settle(&mut self.monitor);
         moves > 0 || breaks > 0
     }
@@ -157,12 +166,13 @@ fn machines_of(alloc: Global, program: &Program, fuel: u32) -> Result<Vec<Machin
     Ok(machines)
 }
 
-/// Thread t's machine takes a slice at the gate's door. It answers the moves made.
+/// Thread t's machine takes the next slice of the schedule at the gate's door. It answers the moves made.
 fn take_slice(
     machine: &mut Machine,
     door: &mut GateDoor,
     program: &Program,
     s: &Settings,
+    schedule: &mut Schedule,
     t: Tid,
 ) -> u32
     requires constants { constants door.old.gate ≡ gate_of (rules_of program.now door.old.gate.loaded s.now) }
@@ -170,12 +180,15 @@ fn take_slice(
     requires low { t.0 < thread_count program.now }
     requires some { 1 ≤ s.now.quantum }
     requires room { s.now.quantum + 1 ≤ door.old.gate.spare }
-    ensures sliced { HasSliced (rules_of program.now door.old.gate.loaded s.now) s.now.quantum t.0 result (past door.old.gate.entries) (past door.new.gate.entries) machine.old machine.new }
+    ensures sliced { HasSliced (rules_of program.now door.old.gate.loaded s.now) (moves_by s.now.quantum schedule.old.words) t.0 result (past door.old.gate.entries) (past door.new.gate.entries) machine.old machine.new }
+    ensures most { moves_by s.now.quantum schedule.old.words ≤ s.now.quantum }
     ensures constants { constants door.new.gate ≡ constants door.old.gate }
     ensures spare { door.old.gate.spare ≤ door.new.gate.spare + result + 1 }
+    ensures left { schedule.new.words ≡ later 1 schedule.old.words }
 {
     door.turn_to(t);
-    let slice = machine.slice(program, door, s.quantum);
+    let q = schedule.moves(s.quantum);
+    let slice = machine.slice(program, door, q);
     door.is_sound();
     slice.moves
 }

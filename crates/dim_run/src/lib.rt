@@ -7,6 +7,7 @@ mod feeding;
 mod finish;
 pub mod laws;
 mod playing;
+mod schedule;
 mod settings;
 mod settling;
 

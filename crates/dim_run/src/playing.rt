@@ -12,6 +12,7 @@ ghost use Rattle.dim_run.specs.Run.{all_ended, ends_after, ends_of, has_cycle, i
 use crate::Settings;
 use crate::crew::Crew;
 use crate::finish::{Last, ends_of};
+use crate::schedule::Schedule;
 use dim_asm::Program;
 use dim_base::{OutOfMemory, Tid};
 use dim_history_file::History;
@@ -44,7 +45,9 @@ pub struct Run {
 /// Runs a program from the signatures of a history, to whose names it is bound: its threads take turns under a gate, and a settle
 /// follows each round, until a round makes no move and its settle no Break. It needs at most 4,080 signatures.
 ///
-/// Each round takes its memory before its first move. The rules stand in docs/rules.md, under "Units, slices, rounds".
+/// The order of the threads in each round and the moves of each slice are drawn from the seed: with seed 0 the threads go in the order
+/// of their numbers, each with the quantum. Each round takes its memory before its first move. The rules stand in docs/rules.md, under
+/// "Units, slices, rounds".
 pub fn play(
     alloc: Global,
     program: &Program,
@@ -125,9 +128,10 @@ fn play_on(crew: &mut Crew, program: &Program, s: &Settings) -> Result<(), OutOf
     ensures plays { OnOk result (PlaysOn (rules_of program.now crew.old.door.gate.loaded s.now) crew.old.door.gate crew.new.door.gate crew.old.machines.items crew.new.machines.items) }
     ensures twin { OnOk result (IsTwin crew.new.door.gate crew.new.monitor) }
 {
+    let mut schedule = Schedule::new(s.seed);
     for _ in 0..2 * (program.threads() * (s.fuel + 1)) + 1 {
         crew.reserve(program, s)?;
-        if !crew.round(program, s) {
+        if !crew.round(program, s, &mut schedule) {
             return Ok(());
         }
     }
