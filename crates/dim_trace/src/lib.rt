@@ -1,13 +1,34 @@
-//! Traces: the entries of a run, and their text.
+//! Traces: the entries of a run, their text, and whether they execute a program.
 #![tactic(auto)]
 
+mod checking;
+mod command;
+mod entries;
+mod fault;
+mod keyword;
+mod laws;
+mod line;
+mod reader;
+mod reading;
+mod retrace;
+mod settled;
+mod stage;
 mod trace;
+mod values;
+mod verdict;
 mod words;
 mod writing;
 
+pub use checking::check;
+pub use fault::{TraceError, TraceFault, TraceKind};
+pub use laws::{reading_law, spelling_law, verdict_law};
+pub use reading::read_trace;
 pub use trace::Trace;
+pub use verdict::{Rule, Verdict};
 pub use words::lock_of;
 pub use writing::write_trace;
 
+#[cfg(test)]
+mod check_tests;
 #[cfg(test)]
 mod tests;
