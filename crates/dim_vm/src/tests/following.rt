@@ -49,7 +49,6 @@ fn a_machine_goes_on_by_its_own_entries(rt: HostRuntime) -> Result<(), Fail> {
     let program = program_of(rt.alloc(), CODE)?;
     let own = [go(&program, 2), GOT, FREE, end(T, Why::Done)];
     assert!(rt; follows(&program, 99, true, &own));
-    assert!(rt; !follows(&program, 99, true, &[GOT]));
     assert!(rt; !follows(&program, 99, true, &[go(&program, 3)]));
     assert!(rt; !follows(&program, 99, true, &[go(&program, 2), GOT, GOT]));
     assert!(rt;
