@@ -8,7 +8,7 @@ use Rattle.dim_base.specs.declared.files.Fetch.TheVariants.{Long, Absent}
 use Rattle.dim_base.specs.declared.files.Fetch.TheVariants as fetch
 use Rattle.dim_base.specs.declared.files.Store.{Store}
 use Rattle.dim_base.specs.declared.files.Store.TheVariants as store
-use Rattle.dim_base.specs.Causes.{Rose}
+use Rattle.dim_base.specs.Causes.{Rose, risen}
 
 -- what stands under each name
 abbrev pub Named : Type 0
@@ -56,3 +56,13 @@ Stores name bytes old new (Err store.OutOfMemory) = new ≡ old
 abbrev pub StoreCause : ℕ → ℕ → Result (Unit {0}) Store → Type 0
 StoreCause before now (Err store.Failed) = Rose before now
 StoreCause before now r = before ≤ now
+
+-- the count of faults after a fetch that counts nothing but its failures
+abbrev pub fetch_count : ℕ → Result (List ℕ) Fetch → ℕ
+fetch_count before (Err fetch.Failed) = risen before
+fetch_count before r = before
+
+-- the count of faults after a store that counts nothing but its failures
+abbrev pub store_count : ℕ → Result (Unit {0}) Store → ℕ
+store_count before (Err store.Failed) = risen before
+store_count before r = before

@@ -8,6 +8,7 @@ mod memory_sink;
 mod out_of_memory;
 mod outside;
 mod sink;
+mod streams;
 mod text;
 
 pub use files::{Fetch, Files, Store};

@@ -2,7 +2,7 @@
 ghost use Rattle.std.specs.Prelude.{◌≡◌, ◌≤◌, ◌/◌, ◌↔◌, List, ℕ, Option, Some, length, take, Contains, IfOk, OnOk, OnErr, IsErrOf};
 ghost use Rattle.std.specs.Option.{option_map};
 ghost use Rattle.dim_base.specs.FailingCalls.{next_call};
-ghost use Rattle.dim_base.specs.Files.{Fetches, FetchCause, SaysLimit, StoreCause, Stores, fetched, no_files, with_file};
+ghost use Rattle.dim_base.specs.Files.{Fetches, FetchCause, SaysLimit, StoreCause, Stores, fetch_count, fetched, no_files, store_count, with_file};
 
 use crate::failing_calls::FailingCalls;
 use crate::{Bytes, Fetch, Files, OutOfMemory, Store, Word};
@@ -130,6 +130,7 @@ impl Files for MemFiles {
         ensures answer { Fetches (fetched (files_of self.old name.now) limit) result }
         ensures kept { files_of self.new ≡ files_of self.old }
         ensures cause { FetchCause self.old.faults self.new.faults result }
+        ensures count { self.new.faults ≡ fetch_count self.old.faults result }
 
         // It fails exactly where the number of the call is in the list.
         ensures counted { calls_of self.new ≡ next_call (calls_of self.old) }
@@ -146,6 +147,7 @@ impl Files for MemFiles {
     fn store(&mut self, alloc: Global, name: &Word, bytes: &[u8]) -> Result<(), Store>
         ensures stored { Stores name.now bytes.now (Some (files_of self.old)) (Some (files_of self.new)) result }
         ensures cause { StoreCause self.old.faults self.new.faults result }
+        ensures count { self.new.faults ≡ store_count self.old.faults result }
 
         // It fails exactly where the number of the call is in the list, unless memory runs out, and leaves a half then.
         ensures counted { calls_of self.new ≡ next_call (calls_of self.old) }

@@ -1,7 +1,7 @@
 //! Sinks in memory.
 ghost use Rattle.std.specs.Prelude.{◌≡◌, ◌++◌, [], ◌/◌, length, take, Contains, IfOk, OnOk, OnErr, IsErrOf, Some};
 ghost use Rattle.dim_base.specs.FailingCalls.{next_call};
-ghost use Rattle.dim_base.specs.Sink.{Puts, PutCause};
+ghost use Rattle.dim_base.specs.Sink.{Puts, PutCause, put_count};
 
 use crate::failing_calls::FailingCalls;
 use crate::{OutOfMemory, Put, Sink};
@@ -102,6 +102,7 @@ impl Sink for MemSink {
     fn put(&mut self, _alloc: Global, bytes: &[u8]) -> Result<(), Put>
         ensures taken { Puts bytes.now (Some (bytes_of self.old)) (Some (bytes_of self.new)) result }
         ensures cause { PutCause self.old.faults self.new.faults result }
+        ensures count { self.new.faults ≡ put_count self.old.faults result }
 
         // It fails exactly where the number of the call is in the list, unless memory runs out, and leaves a half then.
         ensures counted { calls_of self.new ≡ next_call (calls_of self.old) }

@@ -1,6 +1,103 @@
 use super::*;
+use crate::streams::{read_all, write_all};
 use std::alloc::Global;
+use std::io::{self, ErrorKind, Read, Write};
 use std::test::Fail;
+
+// A reader that gives its bytes three at a time, was interrupted before the first, and fails where none is left and it is to fail.
+#[derive(Drop)]
+struct Pieces<'a> {
+    left: &'a [u8],
+    interrupted: bool,
+    fails: bool,
+}
+
+impl<'a> Pieces<'a> {
+    fn of(left: &'a [u8], fails: bool) -> Pieces<'a> {
+        Pieces {
+            left,
+            interrupted: false,
+            fails,
+        }
+    }
+}
+
+impl<'a> Read for Pieces<'a> {
+    fn read(&mut self, buf: &mut [u8]) -> io::Result<usize> {
+        if !self.interrupted {
+            self.interrupted = true;
+            return Err(io::Error::from(ErrorKind::Interrupted));
+        }
+        if self.left.is_empty() && self.fails {
+            return Err(io::Error::from(ErrorKind::Other));
+        }
+        let count = self.left.len().min(buf.len()).min(3);
+        buf[..count].copy_from_slice(&self.left[..count]);
+        self.left = &self.left[count..];
+        Ok(count)
+    }
+}
+
+// A writer that takes three bytes at a time, and fails where it has no more room.
+#[derive(Drop)]
+struct Cells {
+    cells: [u8; 8],
+    taken: usize,
+    room: usize,
+}
+
+impl Cells {
+    fn with_room(room: usize) -> Cells {
+        Cells {
+            cells: [0; 8],
+            taken: 0,
+            room: room.min(8),
+        }
+    }
+}
+
+impl Write for Cells {
+    fn write(&mut self, bytes: &[u8]) -> io::Result<usize> {
+        if self.taken >= self.room || self.room > 8 {
+            return Err(io::Error::from(ErrorKind::Other));
+        }
+        let count = bytes.len().min(self.room - self.taken).min(3);
+        self.cells[self.taken..self.taken + count].copy_from_slice(&bytes[..count]);
+        self.taken += count;
+        Ok(count)
+    }
+
+    fn flush(&mut self) -> io::Result<()> {
+        Ok(())
+    }
+}
+
+#[test]
+fn all_pieces_are_read(rt: HostRuntime) -> Result<(), Fail> {
+    let alloc = rt.alloc();
+    let mut faults = 0;
+    let eight = b"one two!".as_slice();
+    let all = read_all(alloc, Pieces::of(eight, false), 8, &mut faults)?;
+    assert_eq!(rt; all.as_slice(), eight);
+    let long = read_all(alloc, Pieces::of(eight, false), 7, &mut faults);
+    assert!(rt; matches!(long, Err(Fetch::Long { limit: 7 })));
+    assert_eq!(rt; faults, 0);
+    let broken = read_all(alloc, Pieces::of(eight, true), 9, &mut faults);
+    assert!(rt; matches!(broken, Err(Fetch::Failed)));
+    assert_eq!(rt; faults, 1);
+    Ok(())
+}
+
+#[test]
+fn short_writes_go_on(rt: HostRuntime) -> Result<(), Fail> {
+    let mut wide = Cells::with_room(8);
+    assert!(rt; write_all(&mut wide, b"one two!"));
+    assert_eq!(rt; wide.cells.as_slice(), b"one two!".as_slice());
+    let mut narrow = Cells::with_room(5);
+    assert!(rt; !write_all(&mut narrow, b"one two!"));
+    assert_eq!(rt; &narrow.cells[..5], b"one t".as_slice());
+    Ok(())
+}
 
 // Stores a text under a name, and fetches it again.
 fn stored_and_fetched<F: Files>(files: &mut F, alloc: Global) -> Result<Bytes, Fetch> {
@@ -35,6 +132,7 @@ fn the_current_folder(rt: HostRuntime) -> Result<(), Fail> {
     Ok(())
 }
 
+// That lines come out is shown by the program's stored run.
 #[test]
 fn standard_output(rt: HostRuntime) -> Result<(), Fail> {
     let mut sink = StdSink::new(&rt);
