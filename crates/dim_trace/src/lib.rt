@@ -21,7 +21,7 @@ mod writing;
 
 pub use checking::check;
 pub use fault::{TraceError, TraceFault, TraceKind};
-pub use laws::{reading_law, spelling_law, verdict_law};
+pub use laws::{reading_law, spelling_law, verdict_law, words_law};
 pub use reading::read_trace;
 pub use trace::Trace;
 pub use verdict::{Rule, Verdict};

@@ -1,0 +1,6 @@
+pub mod Commands
+pub mod Found
+pub mod Grammar
+pub mod Kept
+pub mod Ranges
+pub mod Words
