@@ -1,0 +1,129 @@
+//! `check`, up to its report.
+ghost use Rattle.std.specs.Prelude.{◌≡◌, ◌≤◌, length, Some, IfOk};
+ghost use Rattle.dim_base.specs.Files.{Named};
+ghost use Rattle.dim_trace.specs.Grammar.{IsTrace};
+ghost use Rattle.dim_trace.specs.Seen.{value_of};
+ghost use Rattle.dim_words.specs.Commands.{check_words};
+ghost use Rattle.dim_cli.specs.Course.{WhereTold, StopCause, Runs, IsFaultless, HasWords, fetches_texts, spells, takes_given, judges, check_course};
+ghost use Rattle.dim_cli.specs.Inputs.{given_of};
+ghost use Rattle.dim_cli.specs.Report.{checked};
+
+use crate::binding::bound;
+use crate::calls::fetch_at;
+use crate::inputs::{Inputs, fetch_history, take_inputs};
+use crate::report::{Ending, Report};
+use crate::run::PROGRAM_LIMIT;
+use crate::stop::{Place, Refusal, Stop};
+use dim_base::{Bytes, Files, OutOfMemory};
+use dim_trace::{Trace, TraceError, Verdict, read_trace};
+use dim_words::CheckCommand;
+use std::alloc::Global;
+
+const TRACE_LIMIT: u64 = 536_870_912;
+
+/// The texts that a check reads.
+#[derive(Drop)]
+pub struct Texts {
+    pub program: Bytes,
+    pub history: Bytes,
+    pub trace: Bytes,
+}
+
+/// What a check judges: a program and a history in one table of names, and a trace.
+#[derive(Drop)]
+pub struct Given {
+    pub both: Inputs,
+    pub trace: Trace,
+}
+
+// Fetches the texts.
+fn fetch_texts<F: Files>(
+    alloc: Global,
+    command: &CheckCommand<'_>,
+    files: &mut F,
+) -> Result<Texts, Stop>
+    ensures runs { WhereTold (F.told files.old) (λ before.
+        Runs (λ texts. texts) (fetches_texts before (check_words command.now)) before result (F.told files.new)) }
+    ensures kept { F.told files.new ≡ F.told files.old }
+    ensures cause { StopCause (F.faults files.old) (F.faults files.new) result }
+    ensures words { HasWords result }
+{
+    let program = fetch_at(alloc, files, Place::Program, command.program, PROGRAM_LIMIT)?;
+    let history = fetch_history(alloc, files, command.history)?;
+    let trace = fetch_at(alloc, files, Place::Trace, command.trace, TRACE_LIMIT)?;
+    Ok(Texts {
+        program,
+        history,
+        trace,
+    })
+}
+
+// The trace of a text.
+fn take_trace(alloc: Global, both: &Inputs, text: &Bytes) -> Result<Trace, Stop>
+    ensures runs { (before : Named) → Runs value_of (spells both.now.program both.now.history.names text.now) before result (Some before) }
+    ensures trace { IfOk result (λ t. IsTrace both.now.program both.now.history.names (value_of t)) }
+    ensures faultless { IsFaultless result }
+    ensures words { HasWords result }
+{
+    match read_trace(alloc, &both.program, &both.history.names, text.as_slice()) {
+        Ok(trace) => Ok(trace),
+        Err(TraceError::OutOfMemory) => Err(Stop::OutOfMemory),
+        Err(TraceError::Bad(fault)) => Err(Stop::Refused(Refusal::BadTrace(fault))),
+    }
+}
+
+// Reads the texts.
+fn take_given(alloc: Global, texts: &Texts) -> Result<Given, Stop>
+    ensures runs { (before : Named) → Runs given_of (takes_given texts.now) before result (Some before) }
+    ensures few { IfOk result (λ g. length g.both.history.catalogue.sigs ≤ 4080) }
+    ensures trace { IfOk result (λ g. IsTrace g.both.program g.both.history.names (value_of g.trace)) }
+    ensures faultless { IsFaultless result }
+    ensures words { HasWords result }
+{
+    let inputs = take_inputs(alloc, &texts.program, &texts.history)?;
+    let both = bound(alloc, inputs)?;
+    let trace = take_trace(alloc, &both, &texts.trace)?;
+    Ok(Given { both, trace })
+}
+
+// The report on so many entries, which execute the program.
+fn checked(alloc: Global, entries: usize) -> Result<Report, OutOfMemory>
+    ensures { IfOk result (λ r. r ≡ checked entries) }
+{
+    let text = format!(in alloc; "yes {entries}\n")?;
+    Ok(Report {
+        ending: Ending::Done,
+        text: Bytes::from_vec(text.into_bytes()),
+    })
+}
+
+// What is said of a trace.
+fn judge(alloc: Global, given: &Given) -> Result<Report, Stop>
+    requires few { length given.now.both.history.catalogue.sigs ≤ 4080 }
+    requires trace { IsTrace given.now.both.program given.now.both.history.names (value_of given.now.trace) }
+    ensures runs { (before : Named) → Runs (λ r. r) (judges (given_of given.now)) before result (Some before) }
+    ensures faultless { IsFaultless result }
+    ensures words { HasWords result }
+{
+    let both = &given.both;
+    match dim_trace::check(alloc, &both.program, &both.history, &given.trace)? {
+        Verdict::Yes => Ok(checked(alloc, given.trace.entries.len())?),
+        Verdict::No { place, rule } => Err(Stop::Refused(Refusal::No { place, rule })),
+    }
+}
+
+/// Fetches and reads a program, a history and a trace, and says whether the trace's entries execute the program on the history.
+pub fn check<F: Files>(
+    alloc: Global,
+    command: &CheckCommand<'_>,
+    files: &mut F,
+) -> Result<Report, Stop>
+    ensures runs { WhereTold (F.told files.old) (λ before.
+        Runs (λ r. r) (check_course before (check_words command.now)) before result (F.told files.new)) }
+    ensures cause { StopCause (F.faults files.old) (F.faults files.new) result }
+    ensures words { HasWords result }
+{
+    let texts = fetch_texts(alloc, command, files)?;
+    let given = take_given(alloc, &texts)?;
+    judge(alloc, &given)
+}
