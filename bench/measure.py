@@ -5,6 +5,7 @@ import shutil
 import subprocess
 import sys
 import tempfile
+import time
 
 ROOT = os.path.dirname(os.path.dirname(os.path.abspath(__file__)))
 
@@ -38,14 +39,14 @@ class Bench:
 
     def once(self, words, wall=False):
         """Runs the program with these words. Answers the seconds of the processor that it took, or those by the clock, and its most memory in bytes."""
-        began = os.times().elapsed
+        began = time.monotonic()
         with open(os.path.join(self.folder, "put"), "wb") as out:
             child = subprocess.Popen([self.path, *words], cwd=self.folder, stdout=out)
             _, status, used = os.wait4(child.pid, 0)
         child.returncode = os.waitstatus_to_exitcode(status)
         if child.returncode not in (0, 3, 4):
             sys.exit(f"failed with status {child.returncode}: dim {' '.join(words)}")
-        took = os.times().elapsed - began if wall else used.ru_utime + used.ru_stime
+        took = time.monotonic() - began if wall else used.ru_utime + used.ru_stime
         return took, used.ru_maxrss * 1024
 
     def least(self, words, runs=5, wall=False):
