@@ -1,4 +1,4 @@
--- Tables stay those of the history as it grows.
+-- Rows and holders stay those of the history as it grows.
 use Rattle.std.proofs.Common.{◌≡◌, ℕ, ◌+◌, ◌-◌, ◌<◌, ◌≤◌, true, false, ◌&&◌, eqb, refl, ap, sym, ◌∙◌, subst, inl, inr, List, [], ◌∷◌, ◌++◌, length, get_or, set, arith, length-set, get_or-set_same, get_or-set_other}
 use Rattle.std.specs.Prelude.{if◌then◌else◌, Option, Some, None, IsSome, replicate, All, IfSome}
 use Rattle.std.proofs.lemmas.List.{reverse-append, length-reverse, length_push, get_or_past, length-replicate, get_or-replicate}
@@ -8,7 +8,7 @@ use Rattle.dim_base.specs.declared.Tid.{Tid}
 use Rattle.dim_base.specs.declared.Lid.{Lid}
 use Rattle.dim_stack.specs.declared.Frame.{Frame}
 use Rattle.dim_rag.specs.declared.entry.Edge.{Edge}
-use Rattle.dim_rag.specs.declared.tables.row.Row.{Row}
+use Rattle.dim_rag.specs.declared.graph.row.Row.{Row}
 use Rattle.dim_rag.specs.declared.entry.Entry.{Entry}
 use Rattle.dim_rag.specs.declared.entry.Entry.TheVariants.{Go, Yield, Got, Free, Took, Miss, End, Break, Learn}
 use Rattle.dim_rag.specs.declared.entry.Mode.{Mode}
@@ -16,7 +16,7 @@ use Rattle.dim_rag.specs.declared.entry.Mode.TheVariants.{Running, Allowed, Yiel
 use Rattle.dim_rag.specs.History.{past, is_word_of, is_about, is_for, latest_wish, latest_grant, hold, hold_by, mode, mode_by, grant}
 use Rattle.dim_rag.specs.Fits.{FitsAfter, IsInRange, IsYielding}
 use Rattle.dim_rag.specs.Tables.{HasLockBelow}
-use Rattle.dim_rag.specs.Rows.{AreTables, IsRow, IsHolder, IsMode, allowed_on, row_after, rows_after, holders_after, row_of, idle_row, broken, edge_in}
+use Rattle.dim_rag.specs.Rows.{IsGraph, IsRow, IsHolder, IsMode, allowed_on, row_after, rows_after, holders_after, row_of, idle_row, broken, edge_in}
 use Rattle.dim_rag.proofs.Words.{same, same_pair}
 use Rattle.dim_rag.proofs.Rows.{row_stays, go_row, yield_row, running_row, got_row, end_row, break_row, old_mode, unallowed_running, unallowed_yielding}
 use Rattle.dim_rag.proofs.HolderSteps.{holder_stays, holder_same, holder_new, holder_gone}
@@ -218,11 +218,11 @@ modes_in_step threads locks rows (End u why) place i k = All-set (λ r. HasLockB
 modes_in_step threads locks rows (Break set u) place i k = All-set (λ r. HasLockBelow locks r.mode) rows u.0 _ (broken_below locks place (get_or rows u.0 idle_row).mode (row_below locks rows u.0 k)) k
 modes_in_step threads locks rows (Learn births) place i k = k
 
--- the tables after an entry that fits are those of the longer list
-pub tables_more : (threads locks spare capacity : ℕ) (rows : List Row) (holders : List (Option Edge)) (entries : List Entry) (e : Entry)
-    → AreTables threads locks spare capacity rows holders entries → 1 ≤ spare → IsInRange threads locks e → FitsAfter (past entries) e
-    → AreTables threads locks (spare - 1) capacity (rows_after rows e (length entries)) (holders_after rows holders e (length entries)) (entries ++ e ∷ [])
-tables_more threads locks spare capacity rows holders entries e a one i f =
+-- the graph after an entry that fits is that of the longer list
+pub graph_more : (threads locks spare : ℕ) (rows : List Row) (holders : List (Option Edge)) (entries : List Entry) (e : Entry)
+    → IsGraph threads locks spare rows holders entries → 1 ≤ spare → IsInRange threads locks e → FitsAfter (past entries) e
+    → IsGraph threads locks (spare - 1) (rows_after rows e (length entries)) (holders_after rows holders e (length entries)) (entries ++ e ∷ [])
+graph_more threads locks spare rows holders entries e a one i f =
     let n : length (past entries) ≡ length entries = length-reverse entries in
     let i' : IsInRange (length rows) (length holders) e = subst (λ (x : ℕ). IsInRange x (length holders) e) (sym a.row_count) (subst (λ (x : ℕ). IsInRange threads x e) (sym a.holder_count) i) in
     let k : AreRows rows (past entries) = λ t d lt. a.each_row t d (rw a.row_count at lt) in
@@ -234,7 +234,6 @@ tables_more threads locks spare capacity rows holders entries e a one i f =
       few_locks = a.few_locks;
       row_count = length_rows rows e (length entries) ∙ a.row_count;
       holder_count = length_holders rows holders e (length entries) ∙ a.holder_count;
-      room = omega (arith, more, a.room, one);
       small = omega (arith, more, a.small, one);
       each_row = λ t d lt. rw past_more (subst (λ (x : ℕ). IsRow t (get_or (rows_after rows e x) t d) (e ∷ past entries)) n (rows_step rows (length holders) e (past entries) i' f k t d (rw (length_rows rows e (length (past entries)), a.row_count) lt)));
       each_holder = λ l d lt. rw past_more (subst (λ (x : ℕ). IsHolder l (get_or (holders_after rows holders e x) l d) (e ∷ past entries)) n (holders_step rows holders e (past entries) i' f k o l d (rw (length_holders rows holders e (length (past entries)), a.holder_count) lt)));
@@ -245,14 +244,13 @@ tables_more threads locks spare capacity rows holders entries e a one i f =
     }
 
 -- at first each thread runs, and nobody holds a lock
-pub tables_first : (threads locks capacity : ℕ) (r : Row) → 1 ≤ threads → threads ≤ 32 → locks ≤ 256 → r.mode ≡ Running → AreTables threads locks 0 capacity (replicate threads r) (replicate locks None) []
-tables_first threads locks capacity r some few few_locks e = record {
+pub graph_first : (threads locks : ℕ) (r : Row) → 1 ≤ threads → threads ≤ 32 → locks ≤ 256 → r.mode ≡ Running → IsGraph threads locks 0 (replicate threads r) (replicate locks None) []
+graph_first threads locks r some few few_locks e = record {
   some_threads = some;
   few_threads = few;
   few_locks = few_locks;
   row_count = length-replicate threads r;
   holder_count = length-replicate {A = Option Edge} locks None;
-  room = omega arith;
   small = omega arith;
   each_row = λ t d lt. subst (λ (x : Row). IsRow t x []) (sym (get_or-replicate threads t r d lt)) record {
     mode_is = sym e;

@@ -16,3 +16,4 @@ pub mod EdgeLaws
 pub mod Tender
 pub mod Requests
 pub mod Stays
+pub mod Journal

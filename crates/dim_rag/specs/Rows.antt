@@ -9,7 +9,7 @@ use Rattle.dim_rag.specs.declared.entry.Entry.{Entry}
 use Rattle.dim_rag.specs.declared.entry.Entry.TheVariants.{Go, Yield, Got, Free, Took, Miss, End, Break, Learn}
 use Rattle.dim_rag.specs.declared.entry.Mode.{Mode}
 use Rattle.dim_rag.specs.declared.entry.Mode.TheVariants.{Running, Allowed, Yielding, Ended}
-use Rattle.dim_rag.specs.declared.tables.row.Row.{Row}
+use Rattle.dim_rag.specs.declared.graph.row.Row.{Row}
 use Rattle.dim_rag.specs.History.{mode, hold, allow, latest_wish, latest_grant, past}
 use Rattle.dim_rag.specs.Fits.{Fits, AreInRange}
 use Rattle.dim_rag.specs.Asks.{may_ask}
@@ -50,14 +50,13 @@ pub record IsRow (t : ℕ) (r : Row) (h : List Entry) : Type 0 where
 abbrev pub IsHolder : ℕ → Option Edge → List Entry → Type 0
 IsHolder l o h = (t : ℕ) → hold t l h ≡ held_by t o
 
--- the tables are those of the history
-pub record AreTables (threads locks spare capacity : ℕ) (rows : List Row) (holders : List (Option Edge)) (entries : List Entry) : Type 0 where
+-- rows and holders are those of the history, and so many more entries may come
+pub record IsGraph (threads locks spare : ℕ) (rows : List Row) (holders : List (Option Edge)) (entries : List Entry) : Type 0 where
   pub some_threads : 1 ≤ threads
   pub few_threads : threads ≤ 32
   pub few_locks : locks ≤ 256
   pub row_count : length rows ≡ threads
   pub holder_count : length holders ≡ locks
-  pub room : length entries + spare ≤ capacity
   pub small : length entries + spare < 2 ^ 32
   pub each_row : (t : ℕ) (d : Row) → t < threads → IsRow t (slice_index_or rows t d) (past entries)
   pub each_holder : (l : ℕ) (d : Option Edge) → l < locks → IsHolder l (slice_index_or holders l d) (past entries)
@@ -82,7 +81,7 @@ broken place (Ended p) = Ended p
 
 -- the row of an entry's thread after it
 abbrev pub row_after : Row → Entry → ℕ → Row
-row_after r (Go t l s) place = record { mode = Allowed l place; stack = s; births = [] }
+row_after r (Go t l s) place = record r { mode = Allowed l place; stack = s }
 row_after r (Yield t l s sig births) place = record { mode = Yielding l place; stack = s; births = births }
 row_after r (Got t l) place = record r { mode = Running }
 row_after r (Free t l) place = record r { mode = Running }

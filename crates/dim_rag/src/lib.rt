@@ -1,9 +1,11 @@
-//! The entries of a gate's history, and the tables that replay them: edges, modes, standing causes, cycles and stuck sets.
+//! The entries of a gate's history, and the graph that replays them: edges, modes, standing causes, cycles and stuck sets.
 #![tactic(auto)]
 
 mod births;
 mod command;
 mod entry;
+mod graph;
+mod journal;
 pub mod laws;
 mod tables;
 #[cfg(test)]
@@ -12,4 +14,6 @@ mod tests;
 pub use births::Births;
 pub use command::{Command, Refusal, Reply};
 pub use entry::{Edge, Entry, MissWhy, Mode, Named, Why, same_entry};
-pub use tables::{Tables, is_member, without};
+pub use graph::{Graph, is_member, without};
+pub use journal::Journal;
+pub use tables::Tables;

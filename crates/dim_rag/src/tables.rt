@@ -1,51 +1,47 @@
-//! Tables that replay the entries of a gate's history.
-ghost use Rattle.std.specs.Prelude.{◌≡◌, ℕ, ◌+◌, ◌-◌, ◌<◌, ◌≤◌, ◌^◌, [], ◌∷◌, ◌++◌, length, slice_get, max, replicate, vec_len, vec_capacity, Some, None, IfOk, OnOk, OnErr, IfSome, IfNone};
+//! Tables that replay the entries of a gate's history, and keep them.
+ghost use Rattle.std.specs.Prelude.{◌≡◌, ℕ, ◌+◌, ◌-◌, ◌<◌, ◌≤◌, ◌^◌, ◌↔◌, IsTrue, [], ◌∷◌, ◌++◌, length, slice_get, max, Some, None, IfOk, OnOk, OnErr, IfSome, IfNone, MatchResult, option_map};
+ghost use Rattle.dim_base.specs.declared.Tid.{Tid};
 ghost use Rattle.dim_rag.specs.declared.entry.Edge.{Edge};
-ghost use Rattle.dim_rag.specs.History.{past, mode, allow, hold};
+ghost use Rattle.dim_rag.specs.History.{past, mode, allow, hold, latest_wish};
 ghost use Rattle.dim_rag.specs.Holder.{holder};
 ghost use Rattle.dim_rag.specs.Fits.{Fits, FitsAfter, IsInRange, AreInRange};
+ghost use Rattle.dim_rag.specs.Asks.{may_ask, IsReady};
 ghost use Rattle.dim_rag.specs.Tables.{HasLockBelow, held_by};
-ghost use Rattle.dim_rag.specs.Rows.{idle_row};
+ghost use Rattle.dim_rag.specs.Born.{IsEdge};
+ghost use Rattle.dim_rag.specs.Edges.{standing};
+ghost use Rattle.dim_rag.specs.Waits.{waits};
+ghost use Rattle.dim_rag.specs.Certificate.{held_at, cycle_fault};
+ghost use Rattle.dim_rag.specs.Stuck.{IsStuck, IsFirstFree, IsUnheldWish, is_held, holds, stale, choice};
 
-mod born;
-mod causes;
-mod cycles;
-mod fits;
-mod row;
-mod set;
-mod stuck;
-
-use crate::entry::{Edge, Entry, MissWhy, Mode};
+use crate::births::Births;
+use crate::entry::{Edge, Entry, Mode};
+use crate::graph::Graph;
+use crate::journal::Journal;
 use dim_base::{Lid, OutOfMemory, Tid};
-use row::{Row, held_by, replay};
-pub use set::{is_member, without};
+use dim_stack::Stack;
 use std::alloc::Global;
 use std::marker::Model;
 
 /// The replay of a list of entries that fits: what edges, modes and cycles there are after exactly that list.
 ///
-/// A contract sees the numbers of threads and of locks, the entries, oldest first, and `spare`, for how many
-/// further entries there is room. No call but `new` and `reserve` takes memory.
+/// They are a graph, which answers, and a journal, which keeps the entries. A contract sees the numbers of threads and of
+/// locks, the entries, oldest first, and `spare`, for how many further entries there is room. No call but `new`,
+/// `reserve` and `entries` takes memory.
 #[derive(Drop)]
 pub struct Tables {
-    threads: u32,
-    locks: u32,
-    spare: u32,
-    rows: Vec<Row>,
-    holders: Vec<Option<Edge>>,
-    entries: Vec<Entry>,
+    graph: Graph,
+    journal: Journal,
 }
 
 impl Model for Tables {
-    ghost use Rattle.std.specs.Prelude.{vec_capacity};
+    ghost use Rattle.std.specs.Prelude.{◌≡◌};
     ghost use Rattle.dim_rag.specs.Tables.{Replay};
-    ghost use Rattle.dim_rag.specs.Rows.{AreTables};
 
     ghost Value = { Replay };
 
-    ghost view = { λ a. record { threads = a.threads; locks = a.locks; entries = a.entries.items; spare = a.spare } };
+    ghost view = { λ a. a.graph };
 
-    ghost invariant = { λ a. AreTables a.threads a.locks a.spare (vec_capacity a.entries) a.rows.items a.holders.items a.entries.items };
+    ghost invariant = { λ a. (a.journal.entries ≡ a.graph.entries) × (a.journal.spare ≡ a.graph.spare) };
 }
 
 impl Tables {
@@ -56,16 +52,9 @@ impl Tables {
         requires few_locks { locks ≤ 256 }
         ensures { IfOk result (λ tables. tables ≡ record { threads = threads; locks = locks; entries = []; spare = 0 }) }
     {
-        let rows = idle_rows(alloc, threads)?;
-        let holders = free_holders(alloc, locks)?;
-        Ok(Tables {
-            threads,
-            locks,
-            spare: 0,
-            rows,
-            holders,
-            entries: Vec::new(alloc),
-        })
+        let graph = Graph::new(alloc, threads, locks)?;
+        let journal = Journal::new(alloc);
+        Ok(Tables { graph, journal })
     }
 
     /// Makes room for at least `entries` further entries. The length and `entries` together are below 2^32.
@@ -76,11 +65,8 @@ impl Tables {
         ensures ok { OnOk result (self.new ≡ record self.old { spare = max self.old.spare entries }) }
         ensures err { OnErr result (self.new ≡ self.old) }
     {
-        if entries <= self.spare {
-            return Ok(());
-        }
-        self.entries.reserve(entries as usize)?;
-        self.spare = entries;
+        self.journal.reserve(entries)?;
+        self.graph.reserve(entries);
         Ok(())
     }
 
@@ -91,10 +77,40 @@ impl Tables {
         requires fits { FitsAfter (past self.old.entries) e }
         ensures { self.new ≡ record self.old { entries = self.old.entries ++ e ∷ []; spare = self.old.spare - 1 } }
     {
-        let place = self.entries.len() as u32;
-        replay(&mut self.rows, &mut self.holders, &e, place);
-        append(&mut self.entries, e);
-        self.spare -= 1;
+        self.enter(&e);
+    }
+
+    /// Appends an entry that fits and that stays the caller's, in the room that there is. It costs the same at any length.
+    pub fn enter(&mut self, e: &Entry)
+        requires room { 1 ≤ self.old.spare }
+        requires in_range { IsInRange self.old.threads self.old.locks e.now }
+        requires fits { FitsAfter (past self.old.entries) e.now }
+        ensures { self.new ≡ record self.old { entries = self.old.entries ++ e.now ∷ []; spare = self.old.spare - 1 } }
+    {
+        self.graph.enter(e);
+        self.journal.push(e);
+    }
+
+    /// The entry at a place below the length.
+    pub fn entry(&self, place: u32) -> Entry
+        requires { place < length self.now.entries }
+        ensures { slice_get self.now.entries place ≡ Some result }
+    {
+        self.journal.entry(place)
+    }
+
+    /// The entries in full, oldest first, in a list of their own, which takes more than 400 bytes for each.
+    pub fn entries(&self, alloc: Global) -> Result<Vec<Entry>, OutOfMemory>
+        ensures { IfOk result (λ all. all.items ≡ self.now.entries) }
+    {
+        self.journal.entries(alloc)
+    }
+
+    /// The graph of the entries.
+    pub fn graph(&self) -> &Graph
+        ensures { result.now ≡ self.now }
+    {
+        &self.graph
     }
 
     /// How many entries there are. They fit, each after those before it.
@@ -106,14 +122,7 @@ impl Tables {
         ensures locks { self.now.locks ≤ 256 }
         ensures small { length self.now.entries + self.now.spare < 2 ^ 32 }
     {
-        self.entries.len() as u32
-    }
-
-    /// The entries, oldest first, of tables that are done with.
-    pub fn into_entries(self) -> Vec<Entry>
-        ensures { result.items ≡ self.entries }
-    {
-        self.entries
+        self.graph.len()
     }
 
     /// How many threads there are, from 1 to 32.
@@ -121,7 +130,7 @@ impl Tables {
         ensures threads { result ≡ self.now.threads }
         ensures few { result ≤ 32 }
     {
-        self.threads
+        self.graph.threads()
     }
 
     /// How many locks there are, from 0 to 256.
@@ -130,15 +139,7 @@ impl Tables {
         ensures in_range { AreInRange self.now.threads self.now.locks (past self.now.entries) }
         ensures few { result ≤ 256 }
     {
-        self.locks
-    }
-
-    /// The entry at a place below the length.
-    pub fn entry(&self, place: u32) -> Entry
-        requires { place < length self.now.entries }
-        ensures { slice_get self.now.entries place ≡ Some result }
-    {
-        self.entries[place as usize]
+        self.graph.locks()
     }
 
     /// The mode of a thread.
@@ -147,7 +148,7 @@ impl Tables {
         ensures value { result ≡ mode t.0 (past self.now.entries) }
         ensures lock { HasLockBelow self.now.locks result }
     {
-        self.rows[t.0 as usize].mode
+        self.graph.mode(t)
     }
 
     /// The allow edge of a thread, which has at most one; none exactly where it has none on any lock.
@@ -157,7 +158,7 @@ impl Tables {
         ensures none { IfNone result ((l : ℕ) → allow t.0 l (past self.now.entries) ≡ None) }
         ensures each { (l : ℕ) (x : Edge) → allow t.0 l (past self.now.entries) ≡ Some x → result ≡ Some x }
     {
-        self.rows[t.0 as usize].allow_edge(t)
+        self.graph.allow_of(t)
     }
 
     /// The hold edge on a lock, which has at most one; none exactly where no thread holds it.
@@ -170,7 +171,7 @@ impl Tables {
         ensures each { (t : ℕ) (x : Edge) → hold t l.0 (past self.now.entries) ≡ Some x → result ≡ Some x }
         ensures thread { IfSome result (λ e. e.t.0 < self.now.threads) }
     {
-        self.holders[l.0 as usize]
+        self.graph.holder(l)
     }
 
     /// The hold edge of a thread on a lock; none exactly where the thread doesn't hold it.
@@ -178,40 +179,115 @@ impl Tables {
         requires { l.0 < self.now.locks }
         ensures { result ≡ hold t.0 l.0 (past self.now.entries) }
     {
-        held_by(t, self.holders[l.0 as usize])
+        self.graph.hold_of(t, l)
     }
-}
 
-/// A row for each thread.
-fn idle_rows(alloc: Global, threads: u32) -> Result<Vec<Row>, OutOfMemory>
-    ensures { IfOk result (λ rows. rows.items ≡ replicate threads idle_row) }
-{
-    let mut rows = Vec::new(alloc);
-    for _ in 0..threads {
-        rows.push(Row::idle())?;
+    /// Whether an entry may come next: its thread and its lock, where it has them, are in range, and the mode of
+    /// its thread and the holder of its lock allow it.
+    pub fn fits(&self, e: &Entry) -> bool
+        ensures { IsTrue result ↔ (IsInRange self.now.threads self.now.locks e.now × FitsAfter (past self.now.entries) e.now) }
+    {
+        self.graph.fits(e)
     }
-    Ok(rows)
-}
 
-/// No holder for each lock.
-fn free_holders(alloc: Global, locks: u32) -> Result<Vec<Option<Edge>>, OutOfMemory>
-    ensures { IfOk result (λ holders. holders.items ≡ replicate locks None) }
-{
-    let mut holders = Vec::new(alloc);
-    for _ in 0..locks {
-        holders.push(None)?;
+    /// Whether a thread runs, or yields on this lock with this stack.
+    pub fn may_ask(&self, t: Tid, l: Lid, stack: &Stack) -> bool
+        requires { t.0 < self.now.threads }
+        ensures value { result ≡ may_ask l stack.now (mode t.0 (past self.now.entries)) (latest_wish t.0 (past self.now.entries)) }
+        ensures ready { IsTrue result → IsReady t.0 l stack.now (past self.now.entries) }
+        ensures always { IsReady t.0 l stack.now (past self.now.entries) → IsTrue result }
+    {
+        self.graph.may_ask(t, l, stack)
     }
-    Ok(holders)
-}
 
-/// Appends an entry in the room that is there.
-fn append(entries: &mut Vec<Entry>, e: Entry)
-    requires { vec_len entries.old < vec_capacity entries.old }
-    ensures items { entries.new.items ≡ entries.old.items ++ e ∷ [] }
-    ensures len { vec_len entries.new ≡ vec_len entries.old + 1 }
-    ensures capacity { vec_capacity entries.new ≡ vec_capacity entries.old }
-{
-    // A value of this type in the function lets the check pass an `Entry` to a generic function.
-    let _why = MissWhy::Busy { holder: Tid(0) };
-    entries.push_reserved(e);
+    /// A thread that yields does not hold the lock that it wants. There is nothing to do: the contract says it.
+    pub fn unheld_wish(&self, t: Tid)
+        requires { t.0 < self.now.threads }
+        ensures { IsUnheldWish t.0 (past self.now.entries) }
+    {
+        self.graph.unheld_wish(t)
+    }
+
+    /// The allow or hold edge with a birth, which is one at most; none exactly where there is none.
+    ///
+    /// It looks at each thread and then at each lock, so it costs the same at any length.
+    pub fn edge_born(&self, birth: u32) -> Option<Edge>
+        ensures some { IfSome result (λ e. IsEdge (past self.now.entries) e × (e.birth ≡ birth)) }
+        ensures each { (e : Edge) → IsEdge (past self.now.entries) e → e.birth ≡ birth → result ≡ Some e }
+        ensures in_range { IfSome result (λ e. (e.t.0 < self.now.threads) × (e.l.0 < self.now.locks)) }
+    {
+        self.graph.edge_born(birth)
+    }
+
+    /// The first cause, in order of position, of a thread that yields and whose causes all stand.
+    ///
+    /// None exactly where the thread doesn't yield, or is woken: a cause of its Yield has ended, or it had none.
+    pub fn standing(&self, t: Tid) -> Option<u32>
+        requires { t.0 < self.now.threads }
+        ensures { result ≡ standing self.now.threads self.now.locks t.0 (past self.now.entries) }
+    {
+        self.graph.standing(t)
+    }
+
+    /// The first position that keeps a list of places from being the births of a cycle, position by position.
+    ///
+    /// Position `i` passes where its place is the birth of a hold edge, whose owner is allowed on the lock of the
+    /// hold edge with the next birth, and, for `i` above 0, has a greater number than the owner at position 0.
+    /// Behind the last position comes the first. A list shorter than 2 fails at 0.
+    pub fn is_cycle(&self, births: &Births) -> Result<(), u32>
+        ensures { MatchResult result (λ done. cycle_fault self.now.threads self.now.locks (past self.now.entries) births.now ≡ None) (λ i. cycle_fault self.now.threads self.now.locks (past self.now.entries) births.now ≡ Some i) }
+    {
+        self.graph.is_cycle(births)
+    }
+
+    /// The hold edge on the lock on which a thread is allowed; none exactly where it is allowed on none, or nobody holds that.
+    pub fn waits_for(&self, t: Tid) -> Option<Edge>
+        requires { t.0 < self.now.threads }
+        ensures value { result ≡ waits self.now.threads (past self.now.entries) t.0 }
+        ensures thread { IfSome result (λ e. e.t.0 < self.now.threads) }
+    {
+        self.graph.waits_for(t)
+    }
+
+    /// The hold edge with a birth; none exactly where no lock has one.
+    pub fn held_at(&self, place: u32) -> Option<Edge>
+        ensures value { result ≡ held_at self.now.threads self.now.locks (past self.now.entries) place }
+        ensures thread { IfSome result (λ e. e.t.0 < self.now.threads) }
+    {
+        self.graph.held_at(place)
+    }
+
+    /// The least member of a set that keeps it from being stuck, or whose number is no thread.
+    ///
+    /// A member may be one where it has ended, or is allowed on a lock that a member holds, or yields with
+    /// causes that all stand and whose owners are all members.
+    pub fn is_stuck(&self, set: u32) -> Result<(), Tid>
+        ensures reading { MatchResult result (λ done. IsStuck self.now.threads self.now.locks (past self.now.entries) set) (λ t. IsFirstFree self.now.threads self.now.locks (past self.now.entries) set t.0) }
+        ensures value { MatchResult result (λ done. stale self.now.threads self.now.locks (past self.now.entries) set ≡ None) (λ t. stale self.now.threads self.now.locks (past self.now.entries) set ≡ Some t.0) }
+    {
+        self.graph.is_stuck(set)
+    }
+
+    /// The member of a set that yields and holds the most locks, and of these the one with the least number.
+    ///
+    /// None exactly where no member yields.
+    pub fn choice(&self, set: u32) -> Option<Tid>
+        ensures { option_map (λ (t : Tid). t.0) result ≡ choice set self.now.locks (past self.now.entries) self.now.threads }
+    {
+        self.graph.choice(set)
+    }
+
+    /// Whether a number is that of a thread that may be a member of a stuck set.
+    pub fn is_held(&self, set: u32, t: u32) -> bool
+        ensures { result ≡ is_held self.now.threads self.now.locks (past self.now.entries) set t }
+    {
+        self.graph.is_held(set, t)
+    }
+
+    /// How many locks a thread holds.
+    pub fn holds(&self, t: Tid) -> u32
+        ensures { result ≡ holds t.0 self.now.locks (past self.now.entries) }
+    {
+        self.graph.holds(t)
+    }
 }

@@ -1,0 +1,99 @@
+//! Cycles, and the places that are the births of one.
+ghost use Rattle.std.specs.Prelude.{◌≡◌, ◌+◌, ◌<◌, Some, None, IfSome, MatchResult, length, drop};
+ghost use Rattle.dim_rag.specs.History.{past};
+ghost use Rattle.dim_rag.specs.Waits.{waits};
+ghost use Rattle.dim_rag.specs.Certificate.{held_at, leads, is_later, passes, next_or, cycle_fault};
+
+use crate::births::Births;
+use crate::entry::{Edge, Mode};
+use crate::graph::Graph;
+use crate::graph::row::held_by;
+use dim_base::Tid;
+
+impl Graph {
+    /// The first position that keeps a list of places from being the births of a cycle, position by position.
+    ///
+    /// Position `i` passes where its place is the birth of a hold edge, whose owner is allowed on the lock of the
+    /// hold edge with the next birth, and, for `i` above 0, has a greater number than the owner at position 0.
+    /// Behind the last position comes the first. A list shorter than 2 fails at 0.
+    pub fn is_cycle(&self, births: &Births) -> Result<(), u32>
+        ensures { MatchResult result (λ done. cycle_fault self.now.threads self.now.locks (past self.now.entries) births.now ≡ None) (λ i. cycle_fault self.now.threads self.now.locks (past self.now.entries) births.now ≡ Some i) }
+    {
+        if births.len() < 2 {
+            return Err(0);
+        }
+        let first = births.at(0);
+        for i in 0..births.len() {
+            let next = next_place(births, i, first);
+            if !self.passes(first, i, births.at(i), next) {
+                return Err(i);
+            }
+        }
+        Ok(())
+    }
+
+    /// The hold edge on the lock on which a thread is allowed; none exactly where it is allowed on none, or nobody holds that.
+    pub fn waits_for(&self, t: Tid) -> Option<Edge>
+        requires { t.0 < self.now.threads }
+        ensures value { result ≡ waits self.now.threads (past self.now.entries) t.0 }
+        ensures thread { IfSome result (λ e. e.t.0 < self.now.threads) }
+    {
+        match self.mode(t) {
+            Mode::Allowed { l, .. } => self.holder(l),
+            _ => None,
+        }
+    }
+
+    /// The hold edge with a birth; none exactly where no lock has one.
+    pub fn held_at(&self, place: u32) -> Option<Edge>
+        ensures value { result ≡ held_at self.now.threads self.now.locks (past self.now.entries) place }
+        ensures thread { IfSome result (λ e. e.t.0 < self.now.threads) }
+    {
+        match self.edge_born(place) {
+            Some(e) => held_by(e.t, self.holder(e.l)),
+            None => None,
+        }
+    }
+
+    /// Whether position `i` of a list of places passes.
+    fn passes(&self, first: u32, i: u32, place: u32, next: u32) -> bool
+        ensures { result ≡ passes (held_at self.now.threads self.now.locks (past self.now.entries)) (waits self.now.threads (past self.now.entries)) first i place next }
+    {
+        let found = self.held_at(place);
+        self.leads(&found, next) && (i == 0 || is_later(&self.held_at(first), &found))
+    }
+
+    /// Whether an edge is there and its owner waits for the hold edge with the next birth.
+    fn leads(&self, found: &Option<Edge>, next: u32) -> bool
+        requires { IfSome found.now (λ e. e.t.0 < self.now.threads) }
+        ensures { result ≡ leads (waits self.now.threads (past self.now.entries)) next found.now }
+    {
+        match found {
+            None => false,
+            Some(e) => match self.waits_for(e.t) {
+                None => false,
+                Some(f) => f.birth == next,
+            },
+        }
+    }
+}
+
+/// The place behind position `i` of a list of places, or the first.
+#[tactic(auto, using(crate::proofs::Positions::next_at, crate::proofs::Positions::next_end))]
+fn next_place(births: &Births, i: u32, first: u32) -> u32
+    requires { i < length births.now }
+    ensures { result ≡ next_or first (drop (i + 1) births.now) }
+{
+    let len = births.len();
+    if i + 1 < len { births.at(i + 1) } else { first }
+}
+
+/// Whether the second of two edges has the greater owner.
+fn is_later(a: &Option<Edge>, b: &Option<Edge>) -> bool
+    ensures { result ≡ is_later a.now b.now }
+{
+    match (a, b) {
+        (Some(x), Some(y)) => x.t.0 < y.t.0,
+        _ => false,
+    }
+}

@@ -1,0 +1,176 @@
+//! What is kept of a thread and of a lock, and what an entry changes of it.
+ghost use Rattle.std.specs.Prelude.{◌≡◌, vec_len};
+ghost use Rattle.dim_rag.specs.Fits.{IsInRange};
+ghost use Rattle.dim_rag.specs.Tables.{thread_of, held_by};
+ghost use Rattle.dim_rag.specs.Born.{with_birth};
+ghost use Rattle.dim_rag.specs.Rows.{idle_row, lock_of, edge_in, broken, row_after, holder_after, rows_after, holders_after, row_may_ask};
+
+use crate::births::Births;
+use crate::entry::{Edge, Entry, Mode};
+use dim_base::{Lid, Tid};
+use dim_stack::{Frame, Stack};
+
+/// What is kept of a thread: its mode, and the stack and the births of its latest request.
+#[derive(Clone, Copy)]
+pub struct Row {
+    pub mode: Mode,
+    pub stack: Stack,
+    pub births: Births,
+}
+
+impl Row {
+    /// That of a thread of which there is no word.
+    pub fn idle() -> Row
+        ensures { result ≡ idle_row }
+    {
+        Row {
+            mode: Mode::Running,
+            stack: Stack::new(&[Frame { func: 0, at: 0 }]),
+            births: Births::new(&[]),
+        }
+    }
+
+    /// The allow edge of a thread with this row.
+    pub fn allow_edge(&self, t: Tid) -> Option<Edge>
+        ensures { result ≡ edge_in t self.now.mode self.now.stack }
+    {
+        match self.mode {
+            Mode::Allowed { l, birth } => Some(Edge {
+                t,
+                l,
+                stack: self.stack,
+                birth,
+            }),
+            _ => None,
+        }
+    }
+
+    /// The allow edge of a thread with this row, if it has this birth.
+    pub fn allow_born(&self, t: Tid, birth: u32) -> Option<Edge>
+        ensures { result ≡ with_birth birth (edge_in t self.now.mode self.now.stack) }
+    {
+        match self.mode {
+            Mode::Allowed { birth: born, .. } if born == birth => self.allow_edge(t),
+            _ => None,
+        }
+    }
+
+    /// Whether a thread with this row runs, or yields on this lock with this stack.
+    pub fn may_ask(&self, l: Lid, stack: &Stack) -> bool
+        ensures { result ≡ row_may_ask l stack.now self.now }
+    {
+        match self.mode {
+            Mode::Running => true,
+            Mode::Yielding { l: m, .. } => m.0 == l.0 && self.stack == *stack,
+            _ => false,
+        }
+    }
+
+    /// Writes into the row of an entry's thread what the entry changes of it.
+    fn step(&mut self, e: &Entry, place: u32)
+        ensures { self.new ≡ row_after self.old e.now place }
+    {
+        match e {
+            Entry::Go { l, stack, .. } => {
+                self.mode = Mode::Allowed {
+                    l: *l,
+                    birth: place,
+                };
+                self.stack = *stack;
+            }
+            Entry::Yield {
+                l,
+                stack,
+                births,
+                ..
+            } => {
+                self.mode = Mode::Yielding { l: *l, place };
+                self.stack = *stack;
+                self.births = *births;
+            }
+            Entry::Got { .. } | Entry::Free { .. } | Entry::Took { .. } | Entry::Miss { .. } => {
+                self.mode = Mode::Running;
+            }
+            Entry::End { .. } => self.mode = Mode::Ended { place },
+            Entry::Break { .. } => self.mode = broken(self.mode, place),
+            Entry::Learn { .. } => {}
+        }
+    }
+
+    /// The holder of an entry's lock after it, where this is the row of its thread before it.
+    fn holder_after(&self, e: &Entry, place: u32) -> Option<Edge>
+        ensures { result ≡ holder_after self.now e.now place }
+    {
+        match e {
+            Entry::Got { t, .. } => self.allow_edge(*t),
+            Entry::Took { t, l, stack } => Some(Edge {
+                t: *t,
+                l: *l,
+                stack: *stack,
+                birth: place,
+            }),
+            _ => None,
+        }
+    }
+}
+
+/// The mode of a thread that is broken out: it is allowed what it wants.
+fn broken(mode: Mode, place: u32) -> Mode
+    ensures { result ≡ broken place mode }
+{
+    match mode {
+        Mode::Yielding { l, .. } => Mode::Allowed { l, birth: place },
+        _ => mode,
+    }
+}
+
+/// The holder of a lock, if it is this thread.
+pub fn held_by(t: Tid, holder: Option<Edge>) -> Option<Edge>
+    ensures { result ≡ held_by t.0 holder }
+{
+    match holder {
+        Some(e) if e.t.0 == t.0 => Some(e),
+        _ => None,
+    }
+}
+
+/// Writes into the rows and the holders what an entry changes.
+pub fn replay(rows: &mut Vec<Row>, holders: &mut Vec<Option<Edge>>, e: &Entry, place: u32)
+    requires { IsInRange (vec_len rows.old) (vec_len holders.old) e.now }
+    ensures rows { rows.new.items ≡ rows_after rows.old.items e.now place }
+    ensures holders { holders.new.items ≡ holders_after rows.old.items holders.old.items e.now place }
+{
+    if let Some(t) = thread_of(e) {
+        if let Some(l) = lock_of(e) {
+            holders[l.0 as usize] = rows[t.0 as usize].holder_after(e, place);
+        }
+        rows[t.0 as usize].step(e, place);
+    }
+}
+
+/// The thread whose row an entry changes.
+fn thread_of(e: &Entry) -> Option<Tid>
+    ensures { result ≡ thread_of e.now }
+{
+    match e {
+        Entry::Go { t, .. }
+        | Entry::Yield { t, .. }
+        | Entry::Got { t, .. }
+        | Entry::Free { t, .. }
+        | Entry::Took { t, .. }
+        | Entry::Miss { t, .. }
+        | Entry::End { t, .. }
+        | Entry::Break { t, .. } => Some(*t),
+        Entry::Learn { .. } => None,
+    }
+}
+
+/// The lock whose holder an entry changes.
+fn lock_of(e: &Entry) -> Option<Lid>
+    ensures { result ≡ lock_of e.now }
+{
+    match e {
+        Entry::Got { l, .. } | Entry::Free { l, .. } | Entry::Took { l, .. } => Some(*l),
+        _ => None,
+    }
+}

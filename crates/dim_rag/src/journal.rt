@@ -1,0 +1,128 @@
+//! The entries of a history, kept in brief.
+ghost use Rattle.std.specs.Prelude.{◌≡◌, ◌+◌, ◌-◌, ◌<◌, ◌≤◌, ◌^◌, [], ◌∷◌, ◌++◌, length, slice_get, max, All, Some, IfOk, OnOk, OnErr};
+ghost use Rattle.dim_rag.specs.Journal.{IsWithin, entries_of};
+
+pub mod brief;
+
+use crate::births::Births;
+use crate::entry::{Entry, MissWhy};
+use brief::{Brief, brief_of, entry_of};
+use dim_base::{OutOfMemory, Tid};
+use dim_stack::Frame;
+use std::alloc::Global;
+use std::marker::Model;
+
+/// The entries of a history, oldest first.
+///
+/// A contract sees them, and for how many further ones there is room. An entry takes 40 bytes, 8 for each frame of its stack, and
+/// 136 for its births where it has some. No call but `reserve` and `entries` takes memory.
+#[derive(Drop)]
+pub struct Journal {
+    spare: u32,
+    briefs: Vec<Brief>,
+    frames: Vec<Frame>,
+    births: Vec<Births>,
+}
+
+impl Model for Journal {
+    ghost use Rattle.std.specs.Prelude.{vec_capacity};
+    ghost use Rattle.dim_rag.specs.Journal.{Recorded, IsJournal, entries_of};
+
+    ghost Value = { Recorded };
+
+    ghost view = { λ a. record { entries = entries_of a.frames.items a.births.items a.briefs.items; spare = a.spare } };
+
+    ghost invariant = { λ a. IsJournal a.spare (vec_capacity a.briefs) (vec_capacity a.frames) (vec_capacity a.births) a.briefs.items a.frames.items a.births.items };
+}
+
+impl Journal {
+    /// No entry, and no room.
+    pub fn new(alloc: Global) -> Journal
+        ensures { result ≡ record { entries = []; spare = 0 } }
+    {
+        Journal {
+            spare: 0,
+            briefs: Vec::new(alloc),
+            frames: Vec::new(alloc),
+            births: Vec::new(alloc),
+        }
+    }
+
+    /// Makes room for at least `entries` further entries, each with a stack of 32 frames and with births.
+    ///
+    /// Where memory runs out, all is as before.
+    pub fn reserve(&mut self, entries: u32) -> Result<(), OutOfMemory>
+        requires { length self.old.entries + entries < 2 ^ 32 }
+        ensures ok { OnOk result (self.new ≡ record self.old { spare = max self.old.spare entries }) }
+        ensures err { OnErr result (self.new ≡ self.old) }
+    {
+        if entries <= self.spare {
+            return Ok(());
+        }
+        self.briefs.reserve(entries as usize)?;
+        self.frames.reserve(32 * entries as usize)?;
+        self.births.reserve(entries as usize)?;
+        self.spare = entries;
+        Ok(())
+    }
+
+    /// Appends an entry, in the room that there is.
+    pub fn push(&mut self, e: &Entry)
+        requires { 1 ≤ self.old.spare }
+        ensures { self.new ≡ record self.old { entries = self.old.entries ++ e.now ∷ []; spare = self.old.spare - 1 } }
+    {
+        let brief = brief_of(&mut self.frames, &mut self.births, e);
+        self.briefs.push_reserved(brief);
+        self.spare -= 1;
+    }
+
+    /// How many entries there are.
+    pub fn len(&self) -> u32
+        ensures len { result ≡ length self.now.entries }
+        ensures small { length self.now.entries + self.now.spare < 2 ^ 32 }
+    {
+        self.briefs.len() as u32
+    }
+
+    /// The entry at a place below the length.
+    pub fn entry(&self, place: u32) -> Entry
+        requires { place < length self.now.entries }
+        ensures { slice_get self.now.entries place ≡ Some result }
+    {
+        entry_of(&self.frames, &self.births, &self.briefs[place as usize])
+    }
+
+    /// The entries in full, in a list of their own.
+    pub fn entries(&self, alloc: Global) -> Result<Vec<Entry>, OutOfMemory>
+        ensures { IfOk result (λ all. all.items ≡ self.now.entries) }
+    {
+        entries_of(alloc, &self.frames, &self.births, &self.briefs)
+    }
+}
+
+/// Appends an entry.
+fn add(entries: &mut Vec<Entry>, e: Entry) -> Result<(), OutOfMemory>
+    ensures { OnOk result (entries.new.items ≡ entries.old.items ++ e ∷ []) }
+{
+    // A value of this type in the function lets the check pass an `Entry` to a generic function.
+    let _why = MissWhy::Busy { holder: Tid(0) };
+    entries.push(e)?;
+    Ok(())
+}
+
+/// The entries that brief ones stand for.
+fn entries_of(
+    alloc: Global,
+    frames: &[Frame],
+    births: &[Births],
+    briefs: &[Brief],
+) -> Result<Vec<Entry>, OutOfMemory>
+    requires { All (IsWithin (length frames.now) (length births.now)) briefs.now }
+    ensures { IfOk result (λ all. all.items ≡ entries_of frames.now births.now briefs.now) }
+{
+    let mut all = Vec::new(alloc);
+    for brief in briefs {
+        add(&mut all, entry_of(frames, births, brief))?;
+    }
+    Ok(all)
+}

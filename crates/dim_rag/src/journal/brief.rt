@@ -1,0 +1,266 @@
+//! Entries in brief: what of them has a small size, and where the rest of them lies.
+ghost use Rattle.std.specs.Prelude.{◌≡◌, ℕ, List, ◌∷◌, [], ◌+◌, ◌<◌, ◌≤◌, ◌^◌, ◌++◌, length, vec_len, vec_capacity};
+ghost use Rattle.dim_rag.specs.declared.entry.MissWhy.TheVariants.{Avoid};
+ghost use Rattle.dim_rag.specs.Journal.{IsIn, IsWithin, frames_in, births_at, stack_of, births_of, births_of_miss, brief_of, brief_of_miss, entry_of};
+
+use crate::births::Births;
+use crate::entry::{Entry, MissWhy, Named, Why};
+use dim_base::{Lid, Tid};
+use dim_stack::{Frame, Stack};
+use std::mem::size_of;
+
+/// Where the frames of a stack lie in a list: from `start` on, `len` of them.
+#[derive(Clone, Copy)]
+pub struct Span {
+    pub start: usize,
+    pub len: u32,
+}
+
+/// An entry in brief. Its stack is a span of a list of frames, and its births are the number of an item of a list of these.
+#[derive(Clone, Copy)]
+pub enum Brief {
+    Went {
+        t: Tid,
+        l: Lid,
+        stack: Span,
+    },
+    Yielded {
+        t: Tid,
+        l: Lid,
+        stack: Span,
+        sig: u32,
+        births: u32,
+    },
+    Obtained {
+        t: Tid,
+        l: Lid,
+    },
+    Freed {
+        t: Tid,
+        l: Lid,
+    },
+    Took {
+        t: Tid,
+        l: Lid,
+        stack: Span,
+    },
+    MissedBusy {
+        t: Tid,
+        l: Lid,
+        stack: Span,
+        holder: Tid,
+    },
+    MissedAvoid {
+        t: Tid,
+        l: Lid,
+        stack: Span,
+        sig: u32,
+        births: u32,
+    },
+    Ended {
+        t: Tid,
+        why: Why,
+    },
+    Broken {
+        set: u32,
+        t: Tid,
+    },
+    Learnt {
+        births: u32,
+    },
+}
+
+// An entry in brief takes at most 40 bytes.
+const _: () = prove!(size_of::<Brief>() <= 40);
+
+/// Puts the frames of a stack behind the others, in the room that is there.
+fn keep_stack(frames: &mut Vec<Frame>, stack: &Stack) -> Span
+    requires { vec_len frames.old + 32 ≤ vec_capacity frames.old }
+    ensures items { frames.new.items ≡ frames.old.items ++ stack.now }
+    ensures capacity { vec_capacity frames.old ≤ vec_capacity frames.new }
+    ensures span { result ≡ record { start = length frames.old.items; len = length stack.now } }
+    ensures within { IsIn (length frames.new.items) result }
+{
+    let start = frames.len();
+    let len = stack.len();
+    let _kept = frames.extend_from_slice(stack.as_slice());
+    Span { start, len }
+}
+
+/// Puts births behind the others, in the room that is there. It answers their number.
+fn keep_births(all: &mut Vec<Births>, births: &Births) -> u32
+    requires room { vec_len all.old < vec_capacity all.old }
+    requires few { vec_len all.old < 2 ^ 32 }
+    ensures items { all.new.items ≡ all.old.items ++ births.now ∷ [] }
+    ensures capacity { vec_capacity all.old ≤ vec_capacity all.new }
+    ensures number { result ≡ length all.old.items }
+{
+    let number = all.len() as u32;
+    all.push_reserved(*births);
+    number
+}
+
+/// An entry in brief. Its frames and its births are put behind the others, in the room that is there.
+#[tactic(auto, using(crate::proofs::Briefs::none_more))]
+pub fn brief_of(frames: &mut Vec<Frame>, births: &mut Vec<Births>, e: &Entry) -> Brief
+    requires frames_room { vec_len frames.old + 32 ≤ vec_capacity frames.old }
+    requires births_room { vec_len births.old < vec_capacity births.old }
+    requires few { vec_len births.old < 2 ^ 32 }
+    ensures frames { frames.new.items ≡ frames.old.items ++ stack_of e.now }
+    ensures births { births.new.items ≡ births.old.items ++ births_of e.now }
+    ensures frames_capacity { vec_capacity frames.old ≤ vec_capacity frames.new }
+    ensures births_capacity { vec_capacity births.old ≤ vec_capacity births.new }
+    ensures value { result ≡ brief_of (length frames.old.items) (length births.old.items) e.now }
+    ensures within { IsWithin (length frames.new.items) (length births.new.items) result }
+    ensures short { length (stack_of e.now) ≤ 32 }
+{
+    match e {
+        Entry::Go { t, l, stack } => Brief::Went {
+            t: *t,
+            l: *l,
+            stack: keep_stack(frames, stack),
+        },
+        Entry::Yield {
+            t,
+            l,
+            stack,
+            sig,
+            births: causes,
+        } => Brief::Yielded {
+            t: *t,
+            l: *l,
+            stack: keep_stack(frames, stack),
+            sig: *sig,
+            births: keep_births(births, causes),
+        },
+        Entry::Got { t, l } => Brief::Obtained { t: *t, l: *l },
+        Entry::Free { t, l } => Brief::Freed { t: *t, l: *l },
+        Entry::Took { t, l, stack } => Brief::Took {
+            t: *t,
+            l: *l,
+            stack: keep_stack(frames, stack),
+        },
+        Entry::Miss { t, l, stack, why } => {
+            let stack = keep_stack(frames, stack);
+            brief_of_miss(births, *t, *l, stack, why)
+        }
+        Entry::End { t, why } => Brief::Ended { t: *t, why: *why },
+        Entry::Break { set, t } => Brief::Broken { set: *set, t: *t },
+        Entry::Learn { births: cycle } => Brief::Learnt {
+            births: keep_births(births, cycle),
+        },
+    }
+}
+
+/// A miss in brief. Its births, if it has any, are put behind the others, in the room that is there.
+#[tactic(auto, using(crate::proofs::Briefs::none_more))]
+fn brief_of_miss(births: &mut Vec<Births>, t: Tid, l: Lid, stack: Span, why: &MissWhy) -> Brief
+    requires births_room { vec_len births.old < vec_capacity births.old }
+    requires few { vec_len births.old < 2 ^ 32 }
+    ensures births { births.new.items ≡ births.old.items ++ births_of_miss why.now }
+    ensures births_capacity { vec_capacity births.old ≤ vec_capacity births.new }
+    ensures value { result ≡ brief_of_miss t l stack (length births.old.items) why.now }
+    ensures within { (n : ℕ) → IsIn n stack → IsWithin n (length births.new.items) result }
+{
+    match why {
+        MissWhy::Busy { holder } => Brief::MissedBusy {
+            t,
+            l,
+            stack,
+            holder: *holder,
+        },
+        MissWhy::Avoid(named) => Brief::MissedAvoid {
+            t,
+            l,
+            stack,
+            sig: named.sig,
+            births: keep_births(births, &named.births),
+        },
+    }
+}
+
+/// The stack whose frames lie in a span.
+fn stack_in(frames: &[Frame], span: &Span) -> Stack
+    requires { IsIn (length frames.now) span.now }
+    ensures { result ≡ frames_in frames.now span.now }
+{
+    let end = span.start + span.len as usize;
+    Stack::new(&frames[span.start..end])
+}
+
+/// Births by their number.
+fn births_at(births: &[Births], number: u32) -> Births
+    requires { number < length births.now }
+    ensures { result ≡ births_at births.now number }
+{
+    births[number as usize]
+}
+
+/// The entry that a brief one stands for.
+pub fn entry_of(frames: &[Frame], births: &[Births], brief: &Brief) -> Entry
+    requires { IsWithin (length frames.now) (length births.now) brief.now }
+    ensures { result ≡ entry_of frames.now births.now brief.now }
+{
+    match brief {
+        Brief::Went { t, l, stack } => Entry::Go {
+            t: *t,
+            l: *l,
+            stack: stack_in(frames, stack),
+        },
+        Brief::Yielded {
+            t,
+            l,
+            stack,
+            sig,
+            births: causes,
+        } => Entry::Yield {
+            t: *t,
+            l: *l,
+            stack: stack_in(frames, stack),
+            sig: *sig,
+            births: births_at(births, *causes),
+        },
+        Brief::Obtained { t, l } => Entry::Got { t: *t, l: *l },
+        Brief::Freed { t, l } => Entry::Free { t: *t, l: *l },
+        Brief::Took { t, l, stack } => Entry::Took {
+            t: *t,
+            l: *l,
+            stack: stack_in(frames, stack),
+        },
+        Brief::MissedBusy {
+            t,
+            l,
+            stack,
+            holder,
+        } => Entry::Miss {
+            t: *t,
+            l: *l,
+            stack: stack_in(frames, stack),
+            why: MissWhy::Busy { holder: *holder },
+        },
+        Brief::MissedAvoid {
+            t,
+            l,
+            stack,
+            sig,
+            births: causes,
+        } => Entry::Miss {
+            t: *t,
+            l: *l,
+            stack: stack_in(frames, stack),
+            why: avoided(*sig, births_at(births, *causes)),
+        },
+        Brief::Ended { t, why } => Entry::End { t: *t, why: *why },
+        Brief::Broken { set, t } => Entry::Break { set: *set, t: *t },
+        Brief::Learnt { births: cycle } => Entry::Learn {
+            births: births_at(births, *cycle),
+        },
+    }
+}
+
+/// Why a try took no lock that would have completed a cover.
+fn avoided(sig: u32, births: Births) -> MissWhy
+    ensures { result ≡ Avoid record { sig = sig; births = births } }
+{
+    MissWhy::Avoid(Named { sig, births })
+}
