@@ -1,11 +1,9 @@
 -- The check of a run says yes.
 use Rattle.std.proofs.Common.{◌≡◌, ◌≤◌, List, ℕ, length, Ok, refl, ap, ◌∙◌, arith}
-use Rattle.std.specs.List.{AllByRecursion}
 use Rattle.dim_base.specs.Files.{Named}
 use Rattle.dim_trace.specs.declared.verdict.Verdict.{Verdict}
 use Rattle.dim_trace.specs.declared.verdict.Verdict.TheVariants.{Yes}
 use Rattle.dim_trace.specs.Checking.{VerdictLaw, gate_of, IsLawful}
-use Rattle.dim_trace.specs.Grammar.{IsEntry}
 use Rattle.dim_trace.specs.Tested.{FoundLaw}
 use Rattle.dim_rag.specs.History.{past}
 use Rattle.dim_cli.specs.declared.check.Texts.{Texts}
@@ -30,22 +28,22 @@ module _ (one : VerdictLaw) (found : FoundLaw) (w : RunWords) (before after file
   under : IsUnder files w.history good.history
   under = record { dash = good.history_there.dash; file = λ d. kept.history ∙ good.history_there.file d }
 
-  texts_are : length stored ≤ 536870912 → (fetches_texts files (check_of w)).ending ≡ Ok read
+  texts_are : (fetches_texts files (check_of w)).ending ≡ Ok read
   unfolding fetches_texts
-  texts_are short =
+  texts_are =
       then_ends (the_program files (check_of w)) (behind_program files (check_of w)) good.program (Ok read) (fetched (files w.program) Program 4194304 good.program (kept.program ∙ good.there) good.short)
       (then_ends (fetches_history files w.history) (behind_history files (check_of w) good.program) good.history (Ok read) (history_fetched files w.history good.history under (let s = good.history_short in omega (arith, s)))
-      (then_ends (the_trace files (check_of w)) (λ trace. gives (texts good.program good.history trace)) stored (Ok read) (fetched (files w.trace) Trace 536870912 stored (kept.trace ∙ h.trace) short) refl))
+      (then_ends (the_trace files (check_of w)) (λ trace. gives (texts good.program good.history trace)) stored (Ok read) (fetched (files w.trace) Trace 536870912 stored (kept.trace ∙ h.trace) h.lawful.trace_reads_back.short) refl))
 
   abbrev judged : Given
   judged = given h.inputs (trace_value w.settings h.entries)
 
-  given_is : AllByRecursion (IsEntry (program_of h.inputs) (names_of h.inputs)) h.entries → (takes_given read).ending ≡ Ok judged
+  given_is : (takes_given read).ending ≡ Ok judged
   unfolding takes_given
-  given_is each =
+  given_is =
       then_ends (takes good.program good.history) (behind_inputs stored) h.inputs (Ok judged) (taken good.program good.history h.inputs good.assembled good.read good.few good.history_short)
       (then_ends (spells (program_of h.inputs) (names_of h.inputs) stored) (λ t. gives (given h.inputs t)) (trace_value w.settings h.entries) (Ok judged)
-      (ap (refusing BadTrace) (h.lawful.trace_reads_back each)) refl)
+      (ap (refusing BadTrace) h.lawful.trace_reads_back.again) refl)
 
   verdict_is : verdict_on judged ≡ Yes
   verdict_is =
@@ -54,11 +52,11 @@ module _ (one : VerdictLaw) (found : FoundLaw) (w : RunWords) (before after file
       let lawful : IsLawful c p w.settings.fuel (past h.entries) = record { legal = h.lawful.executes.legal; walks = h.lawful.executes.walks; settled = h.lawful.executes.settled } in
       one c p w.settings.fuel h.entries (verdict_on judged) Yes (found c p w.settings.fuel h.entries) lawful
 
-  says_yes : AllByRecursion (IsEntry (program_of h.inputs) (names_of h.inputs)) h.entries → length stored ≤ 536870912 → (check_course files (check_of w)).ending ≡ Ok (checked (length h.entries))
+  says_yes : (check_course files (check_of w)).ending ≡ Ok (checked (length h.entries))
   unfolding check_course
-  says_yes each short =
-      then_ends (fetches_texts files (check_of w)) behind_texts read (Ok (checked (length h.entries))) (texts_are short)
-      (then_ends (takes_given read) judges judged (Ok (checked (length h.entries))) (given_is each) (ap (λ (v : Verdict). (tells (length h.entries) v).ending) verdict_is))
+  says_yes =
+      then_ends (fetches_texts files (check_of w)) behind_texts read (Ok (checked (length h.entries))) texts_are
+      (then_ends (takes_given read) judges judged (Ok (checked (length h.entries))) given_is (ap (λ (v : Verdict). (tells (length h.entries) v).ending) verdict_is))
 
 pub stored_law : VerdictLaw → FoundLaw → StoredLaw
-stored_law one found w before after files h good each short kept = says_yes one found w before after files h good kept each short
+stored_law one found w before after files h good kept = says_yes one found w before after files h good kept

@@ -1,10 +1,7 @@
 -- What `check` says of what a run has stored.
-use Rattle.std.specs.Prelude.{◌≡◌, ◌≤◌, length, Ok}
-use Rattle.std.specs.List.{AllByRecursion}
+use Rattle.std.specs.Prelude.{◌≡◌, length, Ok}
 use Rattle.dim_base.specs.Files.{Named}
-use Rattle.dim_trace.specs.Grammar.{IsEntry}
 use Rattle.dim_words.specs.Words.{RunWords, CheckWords}
-use Rattle.dim_cli.specs.Output.{names_of, program_of, trace_by}
 use Rattle.dim_cli.specs.Report.{checked}
 use Rattle.dim_cli.specs.Course.{check_course}
 use Rattle.dim_cli.specs.Headline.{Headline, IsGood}
@@ -19,7 +16,7 @@ pub record AreKept (w : RunWords) (before after files : Named) : Type 0 where
   pub history : files w.history ≡ before w.history
   pub trace : files w.trace ≡ after w.trace
 
--- Over such files the check of a run says yes, and the number of its entries, where each entry is in the ranges of a trace's text and that text is no longer than a fetch takes.
+-- Over such files the check of a run says yes, and the number of its entries.
 abbrev pub StoredLaw : Type 0
-StoredLaw = (w : RunWords) (before after files : Named) (h : Headline w before after) → IsGood w before h.inputs → AllByRecursion (IsEntry (program_of h.inputs) (names_of h.inputs)) h.entries
-    → length (trace_by h.inputs w.settings h.entries) ≤ 536870912 → AreKept w before after files → (check_course files (check_of w)).ending ≡ Ok (checked (length h.entries))
+StoredLaw = (w : RunWords) (before after files : Named) (h : Headline w before after) → IsGood w before h.inputs
+    → AreKept w before after files → (check_course files (check_of w)).ending ≡ Ok (checked (length h.entries))

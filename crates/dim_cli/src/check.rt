@@ -2,7 +2,6 @@
 ghost use Rattle.std.specs.Prelude.{◌≡◌, ◌≤◌, length, Some, IfOk};
 ghost use Rattle.dim_base.specs.Files.{Named};
 ghost use Rattle.dim_trace.specs.Grammar.{IsTrace};
-ghost use Rattle.dim_trace.specs.Seen.{value_of};
 ghost use Rattle.dim_words.specs.Commands.{check_words};
 ghost use Rattle.dim_cli.specs.Course.{WhereTold, StopCause, Runs, IsFaultless, HasWords, fetches_texts, spells, takes_given, judges, check_course};
 ghost use Rattle.dim_cli.specs.Inputs.{given_of};
@@ -15,7 +14,7 @@ use crate::report::{Ending, Report};
 use crate::run::PROGRAM_LIMIT;
 use crate::stop::{Place, Refusal, Stop};
 use dim_base::{Bytes, Files, OutOfMemory};
-use dim_trace::{Trace, TraceError, Verdict, read_trace};
+use dim_trace::{KeptTrace, TraceError, Verdict, check_kept, read_kept};
 use dim_words::CheckCommand;
 use std::alloc::Global;
 
@@ -33,7 +32,7 @@ pub struct Texts {
 #[derive(Drop)]
 pub struct Given {
     pub both: Inputs,
-    pub trace: Trace,
+    pub trace: KeptTrace,
 }
 
 // Fetches the texts.
@@ -59,13 +58,13 @@ fn fetch_texts<F: Files>(
 }
 
 // The trace of a text.
-fn take_trace(alloc: Global, both: &Inputs, text: &Bytes) -> Result<Trace, Stop>
-    ensures runs { (before : Named) → Runs value_of (spells both.now.program both.now.history.names text.now) before result (Some before) }
-    ensures trace { IfOk result (λ t. IsTrace both.now.program both.now.history.names (value_of t)) }
+fn take_trace(alloc: Global, both: &Inputs, text: &Bytes) -> Result<KeptTrace, Stop>
+    ensures runs { (before : Named) → Runs (λ t. t) (spells both.now.program both.now.history.names text.now) before result (Some before) }
+    ensures trace { IfOk result (λ t. IsTrace both.now.program both.now.history.names t) }
     ensures faultless { IsFaultless result }
     ensures words { HasWords result }
 {
-    match read_trace(alloc, &both.program, &both.history.names, text.as_slice()) {
+    match read_kept(alloc, &both.program, &both.history.names, text.as_slice()) {
         Ok(trace) => Ok(trace),
         Err(TraceError::OutOfMemory) => Err(Stop::OutOfMemory),
         Err(TraceError::Bad(fault)) => Err(Stop::Refused(Refusal::BadTrace(fault))),
@@ -76,7 +75,7 @@ fn take_trace(alloc: Global, both: &Inputs, text: &Bytes) -> Result<Trace, Stop>
 fn take_given(alloc: Global, texts: &Texts) -> Result<Given, Stop>
     ensures runs { (before : Named) → Runs given_of (takes_given texts.now) before result (Some before) }
     ensures few { IfOk result (λ g. length g.both.history.catalogue.sigs ≤ 4080) }
-    ensures trace { IfOk result (λ g. IsTrace g.both.program g.both.history.names (value_of g.trace)) }
+    ensures trace { IfOk result (λ g. IsTrace g.both.program g.both.history.names g.trace) }
     ensures faultless { IsFaultless result }
     ensures words { HasWords result }
 {
@@ -87,7 +86,7 @@ fn take_given(alloc: Global, texts: &Texts) -> Result<Given, Stop>
 }
 
 // The report on so many entries, which execute the program.
-fn checked(alloc: Global, entries: usize) -> Result<Report, OutOfMemory>
+fn checked(alloc: Global, entries: u32) -> Result<Report, OutOfMemory>
     ensures { IfOk result (λ r. r ≡ checked entries) }
 {
     let text = format!(in alloc; "yes {entries}\n")?;
@@ -100,14 +99,14 @@ fn checked(alloc: Global, entries: usize) -> Result<Report, OutOfMemory>
 // What is said of a trace.
 fn judge(alloc: Global, given: &Given) -> Result<Report, Stop>
     requires few { length given.now.both.history.catalogue.sigs ≤ 4080 }
-    requires trace { IsTrace given.now.both.program given.now.both.history.names (value_of given.now.trace) }
+    requires trace { IsTrace given.now.both.program given.now.both.history.names given.now.trace }
     ensures runs { (before : Named) → Runs (λ r. r) (judges (given_of given.now)) before result (Some before) }
     ensures faultless { IsFaultless result }
     ensures words { HasWords result }
 {
     let both = &given.both;
-    match dim_trace::check(alloc, &both.program, &both.history, &given.trace)? {
-        Verdict::Yes => Ok(checked(alloc, given.trace.entries.len())?),
+    match check_kept(alloc, &both.program, &both.history, &given.trace)? {
+        Verdict::Yes => Ok(checked(alloc, given.trace.len())?),
         Verdict::No { place, rule } => Err(Stop::Refused(Refusal::No { place, rule })),
     }
 }

@@ -62,3 +62,17 @@ ended_text p names fuel depth entries i n body new past count is e =
     e ∙ ap (λ k. body ++ (codes "end " ++ (decimal k ++ codes "\n"))) count
     ∙ ap (λ t. t ++ (codes "end " ++ (decimal (length entries) ++ codes "\n"))) (is ∙ lines)
     ∙ whole-text p names fuel depth entries
+
+-- the line of one more entry behind those of the first ones
+pub one_more_entry : (p : Code) (names : List (List ℕ)) (head : List ℕ) (entries : List Entry) (i : ℕ) (e : Entry) (body new : List ℕ) → slice_get entries i ≡ Some e
+    → body ≡ head ++ text_of (map (words_of_entry p names) (take i entries)) → new ≡ body ++ line_of (words_of_entry p names e)
+    → new ≡ head ++ text_of (map (words_of_entry p names) (take (i + 1) entries))
+one_more_entry p names head entries i e body new at is more =
+    let words = words_of_entry p names in
+    let lines = text_of (map words (take i entries)) in
+    more ∙ ap (λ x. x ++ line_of (words e)) is ∙ append_assoc head lines (line_of (words e))
+    ∙ ap (λ x. head ++ x) (sym (
+    ap (λ es. text_of (map words es)) (take_one_more entries i e at)
+    ∙ ap text_of (map-append words (take i entries) (e ∷ []))
+    ∙ flat_map-append line_of (map words (take i entries)) (words e ∷ [])
+    ∙ ap (λ x. lines ++ x) (append-nil (line_of (words e)))))

@@ -19,14 +19,14 @@ mod verdict;
 mod words;
 mod writing;
 
-pub use checking::check;
+pub use checking::{check, check_kept};
 pub use fault::{TraceError, TraceFault, TraceKind};
-pub use laws::{reading_law, spelling_law, verdict_law, words_law};
-pub use reading::read_trace;
-pub use trace::Trace;
+pub use laws::{entries_law, length_law, reading_law, spelling_law, verdict_law, words_law};
+pub use reading::{read_kept, read_trace};
+pub use trace::{KeptTrace, Trace};
 pub use verdict::{Rule, Verdict};
 pub use words::lock_of;
-pub use writing::write_trace;
+pub use writing::{write_tables, write_trace};
 
 #[cfg(test)]
 mod check_tests;

@@ -1,24 +1,32 @@
 //! Writing the text of a trace.
-ghost use Rattle.std.specs.Prelude.{◌≡◌, ◌++◌, IfOk, OnOk};
+ghost use Rattle.std.specs.Prelude.{◌≡◌, ◌++◌, All, IfOk, OnOk};
 ghost use Rattle.std.specs.String.{string_bytes};
+ghost use Rattle.dim_trace.specs.Grammar.{HasSet};
 ghost use Rattle.dim_trace.specs.Text.{head_lines, text_of, line_of, words_of_entry, trace_text};
 
 use crate::trace::Trace;
 use crate::words::put_entry;
 use dim_asm::Program;
 use dim_base::{Bytes, OutOfMemory};
-use dim_rag::Entry;
+use dim_rag::{Entry, Tables};
 use dim_stack::Names;
 use std::alloc::{AllocError, Global};
 use std::fmt::Write;
 
 /// The lines before the entries.
-fn head(alloc: Global, trace: &Trace) -> Result<String, AllocError>
-    ensures { IfOk result (λ text. string_bytes text ≡ text_of (head_lines trace.now.fuel trace.now.depth)) }
+fn head(alloc: Global, fuel: u32, depth: u8) -> Result<String, AllocError>
+    ensures { IfOk result (λ text. string_bytes text ≡ text_of (head_lines fuel depth)) }
 {
-    let fuel = trace.fuel;
-    let depth = trace.depth;
     format!(in alloc; "dim trace 1\nsettings {fuel} {depth}\n")
+}
+
+/// The set of a Break is a number of 32 bits.
+fn set_law(entry: &Entry)
+    ensures { HasSet entry.now }
+{
+    if let Entry::Break { set, .. } = entry {
+        let _set = *set;
+    }
 }
 
 /// Appends the line of an entry.
@@ -28,8 +36,11 @@ fn put_line(
     names: &Names,
     entry: &Entry,
 ) -> Result<(), AllocError>
-    ensures { OnOk result (string_bytes text.new ≡ string_bytes text.old ++ line_of (words_of_entry program.now names.now entry.now)) }
+    ensures line { OnOk result (string_bytes text.new
+        ≡ string_bytes text.old ++ line_of (words_of_entry program.now names.now entry.now)) }
+    ensures set { HasSet entry.now }
 {
+    set_law(entry);
     put_entry(text, program, names, entry)?;
     text.push('\n')
 }
@@ -41,9 +52,11 @@ fn text_of_trace(
     names: &Names,
     trace: &Trace,
 ) -> Result<String, AllocError>
-    ensures { IfOk result (λ text. string_bytes text ≡ trace_text program.now names.now trace.now.fuel trace.now.depth trace.now.entries.items) }
+    ensures text { IfOk result (λ text. string_bytes text
+        ≡ trace_text program.now names.now trace.now.fuel trace.now.depth trace.now.entries.items) }
+    ensures sets { OnOk result (All HasSet trace.now.entries.items) }
 {
-    let mut text = head(alloc, trace)?;
+    let mut text = head(alloc, trace.fuel, trace.depth)?;
     for entry in &trace.entries {
         put_line(&mut text, program, names, entry)?;
     }
@@ -53,14 +66,57 @@ fn text_of_trace(
 }
 
 /// The text of a trace of the program, where functions have their names in this table. A number that has no name is written with an empty one.
+/// Each Break's set that was written is a number of 32 bits, as `entries_law` and `length_law` ask.
 pub fn write_trace(
     alloc: Global,
     program: &Program,
     names: &Names,
     trace: &Trace,
 ) -> Result<Bytes, OutOfMemory>
-    ensures { IfOk result (λ text. text ≡ trace_text program.now names.now trace.now.fuel trace.now.depth trace.now.entries.items) }
+    ensures text { IfOk result (λ text. text
+        ≡ trace_text program.now names.now trace.now.fuel trace.now.depth trace.now.entries.items) }
+    ensures sets { OnOk result (All HasSet trace.now.entries.items) }
 {
     let text = text_of_trace(alloc, program, names, trace)?;
+    Ok(Bytes::from_vec(text.into_bytes()))
+}
+
+/// The lines of the head, of the entries in tables and of the end.
+fn text_of_tables(
+    alloc: Global,
+    program: &Program,
+    names: &Names,
+    fuel: u32,
+    depth: u8,
+    tables: &Tables,
+) -> Result<String, AllocError>
+    ensures text { IfOk result (λ text. string_bytes text
+        ≡ trace_text program.now names.now fuel depth tables.now.entries) }
+    ensures sets { OnOk result (All HasSet tables.now.entries) }
+{
+    let mut text = head(alloc, fuel, depth)?;
+    let count = tables.len();
+    for place in 0..count {
+        put_line(&mut text, program, names, &tables.entry(place))?;
+    }
+    writeln!(text, "end {count}")?;
+    Ok(text)
+}
+
+/// The text of the trace with this fuel and this depth whose entries are those of tables: what `write_trace` answers for them, with no list of them made.
+/// Each Break's set that was written is a number of 32 bits.
+pub fn write_tables(
+    alloc: Global,
+    program: &Program,
+    names: &Names,
+    fuel: u32,
+    depth: u8,
+    tables: &Tables,
+) -> Result<Bytes, OutOfMemory>
+    ensures text { IfOk result (λ text. text
+        ≡ trace_text program.now names.now fuel depth tables.now.entries) }
+    ensures sets { OnOk result (All HasSet tables.now.entries) }
+{
+    let text = text_of_tables(alloc, program, names, fuel, depth, tables)?;
     Ok(Bytes::from_vec(text.into_bytes()))
 }

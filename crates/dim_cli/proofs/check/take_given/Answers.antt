@@ -2,7 +2,6 @@ use Rattle.std.proofs.Common.{◌≡◌, List, ℕ, Some, Ok, refl, subst}
 use Rattle.std.proofs.lemmas.Result.{err_from_is_err_and}
 use Rattle.dim_asm.specs.Code.{Code}
 use Rattle.dim_signature.specs.Sig.{Sig}
-use Rattle.dim_trace.specs.Seen.{value_of}
 use Rattle.dim_trace.specs.Value.{TraceValue}
 use Rattle.dim_cli.specs.Course.{Stops, Given, after_calls, takes, spells, takes_given}
 use Rattle.dim_cli.specs.Inputs.{inputs_of, given_of}
@@ -51,7 +50,7 @@ returns-clause-runs c =
     let read = c.in_ok-inputs.ensures.runs files in
     let kept = unchanged files (after_calls (takes t.program t.history).calls files) (Some files) refl read.1 in
     let both = c.in_ok-both.both in
-    let v = value_of c.in_ok-trace.trace in
+    let v = c.in_ok-trace.trace in
     let spelled = (c.in_ok-trace.ensures.runs files).0 in
     let spelled' =
     subst (λ (n : List (List ℕ)). (spells (program_of x) n t.trace).ending ≡ Ok v) c.in_ok-both.ensures.names
