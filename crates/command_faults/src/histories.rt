@@ -1,0 +1,99 @@
+//! Histories that are shown, and those that are refused.
+
+use command_calls::programs::{LEARNT, SMALLEST};
+use command_calls::words::SHORT_SLICES;
+use command_calls::{Around, loaded};
+use dim_base::OutOfMemory;
+use std::alloc::{AllocError, Global};
+use std::fmt::Write;
+use std::sync::Wait;
+use std::test::Fail;
+use std::thread::Threads;
+
+// What `show` puts of a history with this text.
+fn shown<R: Threads + Wait + Sync>(
+    rt: &R,
+    alloc: Global,
+    history: &[u8],
+) -> Result<Around, OutOfMemory> {
+    loaded(rt, alloc, &["show", "g"], SMALLEST, history)
+}
+
+#[test]
+fn a_history_is_shown(rt: HostRuntime) -> Result<(), Fail> {
+    let alloc = rt.alloc();
+    let after = loaded(&rt, alloc, &["show", "g"], SMALLEST, LEARNT)?;
+    assert_eq!(rt; after.status, 0);
+    assert_eq!(rt;
+        after.out.taken(),
+        b"signature 0 depth 4\nleft:0\nright:0\nsignatures 1\n".as_slice()
+    );
+    let none = loaded(&rt, alloc, &["show", "-"], SMALLEST, LEARNT)?;
+    assert_eq!(rt; none.out.taken(), b"signatures 0\n".as_slice());
+    Ok(())
+}
+
+#[test]
+fn a_history_may_be_bad(rt: HostRuntime) -> Result<(), Fail> {
+    let alloc = rt.alloc();
+    let cut = shown(
+        &rt,
+        alloc,
+        b"dim history 1\nsignature 4 2\nleft:0\nright:0\nend 1",
+    )?;
+    assert_eq!(rt; cut.status, 6);
+    assert_eq!(rt; cut.out.taken(), b"history line 5 kind 2\n".as_slice());
+    let more = shown(
+        &rt,
+        alloc,
+        b"dim history 1\nsignature 4 2\nleft:0\nright:0\nend 1\n\n",
+    )?;
+    assert_eq!(rt; more.out.taken(), b"history line 6 kind 8\n".as_slice());
+    let swapped = shown(
+        &rt,
+        alloc,
+        b"dim history 1\nsignature 4 2\nright:0\nleft:0\nend 1\n",
+    )?;
+    assert_eq!(rt; swapped.out.taken(), b"history line 4 kind 5\n".as_slice());
+    Ok(())
+}
+
+#[test]
+fn a_history_may_be_too_long(rt: HostRuntime) -> Result<(), Fail> {
+    let alloc = rt.alloc();
+    let bytes = Vec::from_elem(alloc, b'\n', 8_388_609)?;
+    let after = shown(&rt, alloc, &bytes)?;
+    assert_eq!(rt; after.status, 12);
+    assert_eq!(rt; after.out.taken(), b"file long history\n".as_slice());
+    Ok(())
+}
+
+// The text of a history with so many signatures, each of two stacks.
+fn many(alloc: Global, count: u32) -> Result<String, AllocError> {
+    let mut text = String::from_str(alloc, "dim history 1\n")?;
+    for i in 0..count {
+        writeln!(text, "signature 4 2\na:{i}\nb:{i}")?;
+    }
+    writeln!(text, "end {count}")?;
+    Ok(text)
+}
+
+#[test]
+fn a_history_may_be_too_full(rt: HostRuntime) -> Result<(), Fail> {
+    let alloc = rt.alloc();
+    let text = many(alloc, 4081)?;
+    let after = loaded(&rt, alloc, &SHORT_SLICES, SMALLEST, text.as_bytes())?;
+    assert_eq!(rt; after.status, 10);
+    assert_eq!(rt; after.out.taken(), b"history full 4081 112071\n".as_slice());
+    Ok(())
+}
+
+#[test]
+fn the_largest_history_is_kept(rt: HostRuntime) -> Result<(), Fail> {
+    let alloc = rt.alloc();
+    let text = many(alloc, 4080)?;
+    let after = loaded(&rt, alloc, &SHORT_SLICES, SMALLEST, text.as_bytes())?;
+    assert_eq!(rt; after.status, 0);
+    assert_eq!(rt; after.held(alloc, "h")?, Some(text.as_bytes()));
+    Ok(())
+}

@@ -1,0 +1,11 @@
+//! Tests: what is refused, with which status and line, and what `check` and `show` say.
+#![tactic(auto)]
+
+#[cfg(test)]
+mod checks;
+#[cfg(test)]
+mod histories;
+#[cfg(test)]
+mod programs;
+#[cfg(test)]
+mod statuses;

@@ -1,0 +1,13 @@
+//! Tests: runs whose slices go beside each other, and the programs that numbers stand for.
+#![tactic(auto)]
+
+#[cfg(test)]
+mod doors;
+#[cfg(test)]
+mod generates;
+#[cfg(test)]
+mod lives;
+#[cfg(test)]
+mod many;
+#[cfg(test)]
+mod reports;

@@ -1,0 +1,113 @@
+//! Runs whose slices go beside each other.
+
+use command_calls::programs::{CROSSED, EMPTY, LEARNT, SMALLEST};
+use command_calls::words::{CHECK, LIVE, RUN};
+use command_calls::{called, loaded, over, words_of};
+use dim_base::{MemFiles, MemSink, OutOfMemory, Word};
+use dim_cli::quiet;
+use std::alloc::Global;
+use std::sync::Wait;
+use std::test::Fail;
+use std::thread::Threads;
+
+#[test]
+fn the_smallest_program_lives_as_it_runs(rt: HostRuntime) -> Result<(), Fail> {
+    let alloc = rt.alloc();
+    let after = called(&rt, alloc, &LIVE, SMALLEST, &[], &[])?;
+    assert_eq!(rt; after.status, 0);
+    assert_eq!(rt;
+        after.out.taken(),
+        b"outcome finished\nentries 1\ngo 0\nyield 0\ngot 0\nfree 0\ntook 0\nmiss 0\nend 1\nbreak 0\nlearn 0\nsignatures 0\nthread 0 done said 0 last 0\n".as_slice()
+    );
+    assert_eq!(rt; after.held(alloc, "h")?, Some(EMPTY));
+    assert_eq!(rt;
+        after.held(alloc, "t")?,
+        Some(b"dim trace 1\nsettings 8192 4\ndone 0\nend 1\n".as_slice())
+    );
+    assert_eq!(rt; after.passed, 1);
+    Ok(())
+}
+
+const TWO_WORKERS: [&str; 9] = [
+    "live",
+    "p",
+    "g",
+    "h",
+    "t",
+    "--quantum",
+    "2",
+    "--workers",
+    "2",
+];
+
+#[test]
+fn a_known_deadlock_never_comes(rt: HostRuntime) -> Result<(), Fail> {
+    let alloc = rt.alloc();
+    for _ in 0..50 {
+        let after = loaded(&rt, alloc, &TWO_WORKERS, CROSSED, LEARNT)?;
+        assert_eq!(rt; after.status, 0);
+        assert_eq!(rt; after.held(alloc, "h")?, Some(LEARNT));
+        assert_eq!(rt; over(&rt, alloc, &CHECK, after.files)?.status, 0);
+    }
+    Ok(())
+}
+
+// The status of these words.
+fn status<R: Threads + Wait + Sync>(
+    rt: &R,
+    alloc: Global,
+    words: &[&str],
+) -> Result<u8, OutOfMemory> {
+    Ok(called(rt, alloc, words, SMALLEST, &[], &[])?.status)
+}
+
+#[test]
+fn each_command_has_its_own_options(rt: HostRuntime) -> Result<(), Fail> {
+    let alloc = rt.alloc();
+    let workers = ["run", "p", "-", "h", "t", "--workers", "2"];
+    assert_eq!(rt; status(&rt, alloc, &workers)?, 2);
+    let seed = ["live", "p", "-", "h", "t", "--seed", "1"];
+    assert_eq!(rt; status(&rt, alloc, &seed)?, 2);
+    let most = ["live", "p", "-", "h", "t", "--workers", "16"];
+    assert_eq!(rt; status(&rt, alloc, &most)?, 0);
+    let more = ["live", "p", "-", "h", "t", "--workers", "17"];
+    assert_eq!(rt; status(&rt, alloc, &more)?, 2);
+    let none = ["live", "p", "-", "h", "t", "--workers", "0"];
+    assert_eq!(rt; status(&rt, alloc, &none)?, 2);
+    Ok(())
+}
+
+#[test]
+fn the_house_is_left_by_other_commands(rt: HostRuntime) -> Result<(), Fail> {
+    let alloc = rt.alloc();
+    let after = called(&rt, alloc, &RUN, SMALLEST, &[], &[])?;
+    assert_eq!(rt; after.status, 0);
+    assert_eq!(rt; after.passed, 0);
+    Ok(())
+}
+
+#[test]
+fn a_store_of_a_live_run_may_fail(rt: HostRuntime) -> Result<(), Fail> {
+    let alloc = rt.alloc();
+    let after = called(&rt, alloc, &LIVE, SMALLEST, &[3], &[])?;
+    assert_eq!(rt; after.status, 7);
+    assert_eq!(rt; after.out.taken(), b"file fault trace\n".as_slice());
+    assert_eq!(rt; after.held(alloc, "h")?, Some(EMPTY));
+    Ok(())
+}
+
+// The status of a call that waits for nothing.
+fn quiet_status(alloc: Global, words: &[&str]) -> Result<u8, OutOfMemory> {
+    let mut files = MemFiles::new(alloc, &[])?;
+    let mut out = MemSink::new(alloc, &[])?;
+    files.give(&Word::of(alloc, "p")?, SMALLEST)?;
+    let words = words_of(alloc, words)?;
+    Ok(quiet(alloc, &words, &mut files, &mut out))
+}
+
+#[test]
+fn what_waits_for_nothing_knows_no_live(rt: HostRuntime) -> Result<(), Fail> {
+    assert_eq!(rt; quiet_status(rt.alloc(), &LIVE)?, 2);
+    assert_eq!(rt; quiet_status(rt.alloc(), &RUN)?, 0);
+    Ok(())
+}

@@ -1,0 +1,9 @@
+//! Tests: what runs play, store and report.
+#![tactic(auto)]
+
+#[cfg(test)]
+mod machine;
+#[cfg(test)]
+mod runs;
+#[cfg(test)]
+mod seeds;
