@@ -1,4 +1,7 @@
-"""How the benches run the program and what they measure: processor time, which other work on the machine changes little, and the most memory."""
+"""How the benches run the program and what they measure: processor time, which other work on the machine changes little, and the most memory.
+
+The memory is told by the command `time`; where there is none it is 0. (What the system tells of a child is never less than what its parent has used.)
+"""
 import atexit
 import os
 import shutil
@@ -7,6 +10,7 @@ import sys
 import tempfile
 import time
 
+TIME = shutil.which("time")
 ROOT = os.path.dirname(os.path.dirname(os.path.abspath(__file__)))
 
 
@@ -39,15 +43,16 @@ class Bench:
 
     def once(self, words, wall=False):
         """Runs the program with these words. Answers the seconds of the processor that it took, or those by the clock, and its most memory in bytes."""
+        gauge = [TIME, "-f", "%M", "-o", "used"] if TIME else []
         began = time.monotonic()
         with open(os.path.join(self.folder, "put"), "wb") as out:
-            child = subprocess.Popen([self.path, *words], cwd=self.folder, stdout=out)
+            child = subprocess.Popen([*gauge, self.path, *words], cwd=self.folder, stdout=out)
             _, status, used = os.wait4(child.pid, 0)
         child.returncode = os.waitstatus_to_exitcode(status)
         if child.returncode not in (0, 3, 4):
             sys.exit(f"failed with status {child.returncode}: dim {' '.join(words)}")
         took = time.monotonic() - began if wall else used.ru_utime + used.ru_stime
-        return took, used.ru_maxrss * 1024
+        return took, 1024 * int(self.read("used").split()[-1]) if gauge else 0
 
     def least(self, words, runs=5, wall=False):
         """The least time of some runs, and the least of their most memory."""
@@ -59,7 +64,10 @@ class Bench:
         return max(1e-6, self.least(words, runs)[0] - self.start)
 
     def entries(self, trace="t"):
-        return int(self.read(trace).split()[-1])
+        """The number that the last line of a trace tells."""
+        with open(os.path.join(self.folder, trace), "rb") as file:
+            file.seek(-20, os.SEEK_END)
+            return int(file.read().split()[-1])
 
     def fault(self, text):
         self.faults.append(text)

@@ -1,19 +1,26 @@
-//! A gate with the room that it has left, without a lock and under a mutex.
-ghost use Rattle.std.specs.Prelude.{◌≡◌, ◌≤◌, ◌<◌, IfOk};
+//! A gate with the room that it has left, without a lock, with a feed, and under a mutex.
+ghost use Rattle.std.specs.Prelude.{◌≡◌, ◌≤◌, ◌<◌, [], IfOk};
+ghost use Rattle.dim_gate.specs.Notes.{IsInboxOf};
 
 use crate::commands::{call_stack, command};
 use dim_base::OutOfMemory;
+use dim_events::{Inbox, pair, status};
 use dim_gate::GateState;
+use dim_rag::Entry;
 use dim_signature::Catalogue;
 use dim_stack::Stack;
 use std::alloc::{AllocError, Global};
 use std::sync::{Mutex, Wait};
 use std::thread::{Threads, map_indices};
 
-/// A gate for four threads and four locks that knows no signature, with room for so many entries.
+/// How many places the ring of a feed has.
+const RING: u32 = 1024;
+
+/// A gate for four threads and four locks that knows no signature, with room for just so many entries.
 pub fn new_gate(alloc: Global, room: u32) -> Result<GateState, OutOfMemory>
     ensures sizes { IfOk result (λ gate. (gate.threads ≡ 4) × (gate.locks ≡ 4)) }
-    ensures room { IfOk result (λ gate. room ≤ gate.spare) }
+    ensures empty { IfOk result (λ gate. gate.entries ≡ []) }
+    ensures room { IfOk result (λ gate. gate.spare ≡ room) }
 {
     let mut gate = GateState::new(alloc, 4, 4, Catalogue::new(alloc), 4, 16)?;
     gate.reserve(room)?;
@@ -39,11 +46,20 @@ impl Desk {
     /// A caller's command at this step, while there is room.
     fn ask(&mut self, caller: u32, step: u32, stack: &Stack)
         requires { caller < 4 }
+        ensures { self.new.gate.feed ≡ self.old.gate.feed }
     {
         if self.left > 0 {
             self.left -= 1;
             self.gate.act(caller, command(caller, step, stack));
         }
+    }
+
+    /// Takes the note of the last entry, if it isn't taken yet.
+    fn take_note(&mut self, inbox: &mut Inbox<Entry>)
+        requires { IsInboxOf self.old.gate.feed inbox.old }
+        ensures { IsInboxOf self.new.gate.feed inbox.new }
+    {
+        self.gate.take_note(inbox);
     }
 }
 
@@ -52,6 +68,29 @@ pub fn play_plain(desk: &mut Desk, steps: u32) {
     let stack = call_stack();
     for step in 0..steps {
         desk.ask(0, step, &stack);
+    }
+}
+
+/// A desk whose gate has a feed, and the end of its ring at which notes are taken.
+pub fn new_fed(alloc: Global, room: u32) -> Result<(Desk, Inbox<Entry>), OutOfMemory>
+    ensures { IfOk result (λ made. IsInboxOf made.0.gate.feed made.1) }
+{
+    let mut gate = new_gate(alloc, room)?;
+    let (mut out, inbox) = pair::<Entry>(alloc, RING)?;
+    out.reserve(room)?;
+    let (status, _watch, _passes) = status(alloc, 1)?;
+    gate.attach(out, status);
+    Ok((Desk { gate, left: room }, inbox))
+}
+
+/// The commands of the one caller, with no lock, who takes the note of each entry.
+pub fn play_fed(desk: &mut Desk, inbox: &mut Inbox<Entry>, steps: u32)
+    requires { IsInboxOf desk.old.gate.feed inbox.old }
+{
+    let stack = call_stack();
+    for step in 0..steps {
+        desk.ask(0, step, &stack);
+        desk.take_note(inbox);
     }
 }
 
