@@ -13,7 +13,6 @@ pub mod Born
 pub mod Certificate
 pub mod Places
 pub mod EdgeLaws
-pub mod Tender
 pub mod Requests
 pub mod Stays
 pub mod Journal

@@ -11,7 +11,7 @@ ghost use Rattle.dim_rag.specs.Born.{IsEdge};
 ghost use Rattle.dim_rag.specs.Edges.{standing};
 ghost use Rattle.dim_rag.specs.Waits.{waits};
 ghost use Rattle.dim_rag.specs.Certificate.{held_at, cycle_fault};
-ghost use Rattle.dim_rag.specs.Stuck.{IsStuck, IsFirstFree, IsUnheldWish, is_held, holds, stale, choice};
+ghost use Rattle.dim_rag.specs.Stuck.{IsStuck, IsFirstFree, stale, choice};
 
 use crate::births::Births;
 use crate::entry::{Edge, Entry, Mode};
@@ -200,14 +200,6 @@ impl Tables {
         self.graph.may_ask(t, l, stack)
     }
 
-    /// A thread that yields does not hold the lock that it wants. There is nothing to do: the contract says it.
-    pub fn unheld_wish(&self, t: Tid)
-        requires { t.0 < self.now.threads }
-        ensures { IsUnheldWish t.0 (past self.now.entries) }
-    {
-        self.graph.unheld_wish(t)
-    }
-
     /// The allow or hold edge with a birth, which is one at most; none exactly where there is none.
     ///
     /// It looks at each thread and then at each lock, so it costs the same at any length.
@@ -275,19 +267,5 @@ impl Tables {
         ensures { option_map (λ (t : Tid). t.0) result ≡ choice set self.now.locks (past self.now.entries) self.now.threads }
     {
         self.graph.choice(set)
-    }
-
-    /// Whether a number is that of a thread that may be a member of a stuck set.
-    pub fn is_held(&self, set: u32, t: u32) -> bool
-        ensures { result ≡ is_held self.now.threads self.now.locks (past self.now.entries) set t }
-    {
-        self.graph.is_held(set, t)
-    }
-
-    /// How many locks a thread holds.
-    pub fn holds(&self, t: Tid) -> u32
-        ensures { result ≡ holds t.0 self.now.locks (past self.now.entries) }
-    {
-        self.graph.holds(t)
     }
 }

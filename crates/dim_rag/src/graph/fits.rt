@@ -4,7 +4,6 @@ ghost use Rattle.dim_rag.specs.declared.entry.Mode.TheVariants.{Running};
 ghost use Rattle.dim_rag.specs.History.{past, mode, latest_wish};
 ghost use Rattle.dim_rag.specs.Asks.{may_ask, IsReady};
 ghost use Rattle.dim_rag.specs.Fits.{FitsAfter, IsInRange, IsYielding, IsAllowedOn};
-ghost use Rattle.dim_rag.specs.Stuck.{IsUnheldWish};
 
 use crate::entry::{Entry, Mode};
 use crate::graph::Graph;
@@ -87,13 +86,5 @@ impl Graph {
         ensures always { IsReady t.0 l stack.now (past self.now.entries) → IsTrue result }
     {
         self.rows[t.0 as usize].may_ask(l, stack)
-    }
-
-    /// A thread that yields does not hold the lock that it wants. There is nothing to do: the contract says it.
-    pub fn unheld_wish(&self, t: Tid)
-        requires { t.0 < self.now.threads }
-        ensures { IsUnheldWish t.0 (past self.now.entries) }
-    {
-        let _row = &self.rows[t.0 as usize];
     }
 }

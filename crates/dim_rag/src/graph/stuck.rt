@@ -42,7 +42,7 @@ impl Graph {
     }
 
     /// Whether a number is that of a thread that may be a member of a stuck set.
-    pub fn is_held(&self, set: u32, t: u32) -> bool
+    fn is_held(&self, set: u32, t: u32) -> bool
         ensures { result ≡ is_held self.now.threads self.now.locks (past self.now.entries) set t }
     {
         t < self.threads() && self.is_held_in(set, Tid(t))
@@ -62,7 +62,7 @@ impl Graph {
     }
 
     /// How many locks a thread holds.
-    pub fn holds(&self, t: Tid) -> u32
+    fn holds(&self, t: Tid) -> u32
         ensures { result ≡ holds t.0 self.now.locks (past self.now.entries) }
     {
         let mut count = 0;
