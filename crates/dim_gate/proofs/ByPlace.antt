@@ -55,18 +55,21 @@ get_next (y ∷ xs) x = get_next xs x
 module _ (loaded : List Sig) (depth : ℕ) where
   -- an entry adds as many as it learns
   count_step : (e : Entry) (h : List Entry) → length (learnt depth e h) + length (learns h) ≡ length (learns (e ∷ h))
-  count_step (Go t l s) h = refl
-  count_step (Yield t l s sig b) h = refl
-  count_step (Got t l) h = refl
-  count_step (Free t l) h = refl
-  count_step (Took t l s) h = refl
-  count_step (Miss t l s why) h = refl
-  count_step (End t why) h = refl
-  count_step (Break set t) h = refl
-  count_step (Learn b) h = refl
+  count_step (Go t l s) h = omega arith
+  count_step (Yield t l s sig b) h = omega arith
+  count_step (Got t l) h = omega arith
+  count_step (Free t l) h = omega arith
+  count_step (Took t l s) h = omega arith
+  count_step (Miss t l s why) h = omega arith
+  count_step (End t why) h = omega arith
+  count_step (Break set t) h = omega arith
+  count_step (Learn b) h = omega arith
 
   count : (h : List Entry) → length (knowns loaded depth h) ≡ length loaded + length (learns h)
-  count [] = let n : length (map (λ s. record { sig = s; since = 0 }) loaded) ≡ length loaded = length-map _ loaded in omega (arith, n)
+  count [] =
+      let known : Sig → Known = λ s. record { sig = s; since = 0 } in
+      let n : length (map known loaded) ≡ length loaded = length-map loaded known in
+      omega (arith, n)
   count (e ∷ h) =
       let a : length (knowns loaded depth h ++ learnt depth e h) ≡ length (knowns loaded depth h) + length (learnt depth e h) = length-append (knowns loaded depth h) (learnt depth e h) in
       let b = count h in
