@@ -7,6 +7,7 @@ mod memory_files;
 mod memory_sink;
 mod out_of_memory;
 mod outside;
+mod replacing;
 mod sink;
 mod streams;
 mod text;

@@ -1,13 +1,15 @@
 //! The files of the current folder, and standard output. They tell nothing of what they hold.
 ghost use Rattle.std.specs.Prelude.{◌≡◌, None};
 
+use crate::replacing::put_under;
 use crate::streams::{read_all, write_all};
 use crate::{Bytes, Fetch, Files, Put, Sink, Store, Word};
 use std::alloc::Global;
 use std::io::{self, ErrorKind};
 use std::{fs, rt};
 
-/// The files of the current folder.
+/// The files of the current folder. A store replaces a plain file by one that was written beside it; what can't be replaced is
+/// written over.
 #[derive(Drop)]
 pub struct DirFiles<'a, R: rt::Files> {
     rt: &'a R,
@@ -40,15 +42,8 @@ impl<'a, R: rt::Files> Files for DirFiles<'a, R> {
         }
     }
 
-    fn store(&mut self, _alloc: Global, name: &Word, bytes: &[u8]) -> Result<(), Store> {
-        let stored = match fs::create(self.rt, name.as_str()) {
-            Ok(file) => {
-                let mut file = file;
-                write_all(&mut file, bytes)
-            }
-            Err(_) => false,
-        };
-        if stored {
+    fn store(&mut self, alloc: Global, name: &Word, bytes: &[u8]) -> Result<(), Store> {
+        if put_under(alloc, self.rt, name.as_str(), bytes)? {
             return Ok(());
         }
         self.faults = self.faults.saturating_add(1);

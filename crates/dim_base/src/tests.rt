@@ -132,6 +132,44 @@ fn the_current_folder(rt: HostRuntime) -> Result<(), Fail> {
     Ok(())
 }
 
+#[test]
+fn a_store_replaces_a_file_and_leaves_all_others(rt: HostRuntime) -> Result<(), Fail> {
+    let alloc = rt.alloc();
+    let mut files = DirFiles::new(&rt);
+    let name = Word::of(alloc, "kept")?;
+    let beside = Word::of(alloc, "kept.unfinished.0")?;
+    let next = Word::of(alloc, "kept.unfinished.1")?;
+    files.store(alloc, &name, b"old")?;
+    assert!(rt; matches!(files.fetch(alloc, &beside, 9), Err(Fetch::Absent)));
+    files.store(alloc, &beside, b"another's")?;
+    files.store(alloc, &name, b"new")?;
+    assert_eq!(rt; files.fetch(alloc, &name, 9)?.as_slice(), b"new".as_slice());
+    assert_eq!(rt;
+        files.fetch(alloc, &beside, 9)?.as_slice(),
+        b"another's".as_slice()
+    );
+    assert!(rt; matches!(files.fetch(alloc, &next, 9), Err(Fetch::Absent)));
+    assert_eq!(rt; files.faults, 0);
+    Ok(())
+}
+
+#[test]
+fn a_long_name_is_written_over_and_a_longer_one_fails(rt: HostRuntime) -> Result<(), Fail> {
+    let alloc = rt.alloc();
+    let mut files = DirFiles::new(&rt);
+    let long = "n".repeat(alloc, 255)?;
+    let name = Word::of(alloc, long.as_str())?;
+    files.store(alloc, &name, b"one")?;
+    files.store(alloc, &name, b"two")?;
+    assert_eq!(rt; files.fetch(alloc, &name, 9)?.as_slice(), b"two".as_slice());
+    let longer = "n".repeat(alloc, 256)?;
+    let name = Word::of(alloc, longer.as_str())?;
+    assert!(rt; matches!(files.store(alloc, &name, b""), Err(Store::Failed)));
+    assert!(rt; matches!(files.fetch(alloc, &name, 9), Err(Fetch::Failed)));
+    assert_eq!(rt; files.faults, 2);
+    Ok(())
+}
+
 // That lines come out is shown by the program's stored run.
 #[test]
 fn standard_output(rt: HostRuntime) -> Result<(), Fail> {
