@@ -3,3 +3,4 @@ pub mod Digits
 pub mod NameLemmas
 pub mod ReadingLemmas
 pub mod Splitting
+pub mod WordLemmas

@@ -35,3 +35,10 @@ below_zero (suc n) = Some (negsuc n)
 -- the signed number of 64 bits that a word is: a number, or `-` before a number other than 0
 unfoldable pub signed_of : List ℕ → Option ℤ
 signed_of word = if slice_index word 0 == 45 then option_and_then below_zero (number_of (2 ^ 63) (drop 1 word)) else option_map pos (number_of (2 ^ 63 - 1) word)
+
+-- the number from low to high that a word is
+abbrev pub at_least : ℕ → ℕ → Option ℕ
+at_least low n = if nat_le low n then Some n else None
+
+abbrev pub number_from : ℕ → ℕ → List ℕ → Option ℕ
+number_from low high word = option_and_then (at_least low) (number_of high word)

@@ -5,11 +5,15 @@ mod laws;
 mod names;
 mod numbers;
 mod parts;
+mod stop;
+mod words;
 
 pub use laws::{byte_laws, cutting_laws};
 pub use names::{is_name, name};
-pub use numbers::{is_number, number, number64, signed};
+pub use numbers::{is_number, number, number_from, number64, signed};
 pub use parts::{Parts, frame_sides};
+pub use stop::Stop;
+pub use words::{one_word, two_words, unless};
 
 #[cfg(test)]
 mod tests;

@@ -3,7 +3,7 @@ ghost use Rattle.std.specs.Prelude.{◌≡◌, ◌≤◌, ◌<◌, ◌^◌, ◌-
 ghost use Rattle.std.specs.Int.{w64};
 ghost use Rattle.std.specs.Option.{option_map};
 ghost use Rattle.std.specs.Fmt.{decimal, signed_decimal};
-ghost use Rattle.dim_text.specs.Numerals.{are_digits, is_number, value_of, number_of, below_zero, signed_of};
+ghost use Rattle.dim_text.specs.Numerals.{are_digits, is_number, value_of, number_of, number_from, below_zero, signed_of};
 
 fn are_digits(word: &[u8]) -> bool
     ensures { result ≡ are_digits word.now }
@@ -62,6 +62,17 @@ pub fn number(word: &[u8], max: u32) -> Option<u32>
 {
     let n = number64(word, u64::from(max))?;
     Some(n as u32)
+}
+
+/// The number from `low` to `high` that a word is.
+pub fn number_from(word: &[u8], low: u32, high: u32) -> Option<u32>
+    ensures value { result ≡ number_from low high word.now }
+    ensures within { IfSome result (λ n. (low ≤ n) × (n ≤ high)) }
+{
+    match number(word, high) {
+        Some(n) if low <= n => Some(n),
+        _ => None,
+    }
 }
 
 // The number below 0 that these digits spell behind a `-`.
