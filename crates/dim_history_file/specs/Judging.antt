@@ -5,9 +5,10 @@ use Rattle.std.specs.Option.{is_some}
 use Rattle.std.specs.Ordering.{is_lt}
 use Rattle.std.specs.Str.{bytes_eq}
 use Rattle.dim_text.specs.Cuts.{lines_of, words_of, sides_of}
-use Rattle.dim_text.specs.Numerals.{number_of}
+use Rattle.dim_text.specs.Numerals.{number_of, number_from}
 use Rattle.dim_text.specs.Naming.{name_of}
 use Rattle.dim_text.specs.Reading.{◌>>=◌, or_else, read_from}
+use Rattle.dim_text.specs.Words.{unless, one_word, two_words, has_sides}
 use Rattle.dim_history_file.specs.declared.fault.FileKind.{FileKind}
 use Rattle.dim_history_file.specs.declared.fault.FileKind.TheVariants.{Line, Name, Number, Unsorted, Double, Count, Rest, Limit}
 use Rattle.dim_history_file.specs.declared.fault.FileKind.TheVariants as kind
@@ -36,35 +37,6 @@ pub record State : Type 0 where
   pub stage : Stage
   pub sigs : List NamedSig
 
-abbrev pub unless : Bool → FileKind → Result (Unit {0}) FileKind
-unless true kind = Err kind
-unless false kind = Ok tt
-
--- a word that isn't empty, as it is between two spaces
-abbrev pub filled : List ℕ → Result (List ℕ) FileKind
-filled [] = Err Line
-filled (c ∷ cs) = Ok (c ∷ cs)
-
--- one word more, or two
-abbrev pub one_word : List (List ℕ) → Result (List ℕ) FileKind
-one_word [] = Err Line
-one_word (word ∷ []) = filled word
-one_word (word ∷ next ∷ words) = Err Line
-
-abbrev pub two_words : List (List ℕ) → Result (List ℕ × List ℕ) FileKind
-two_words [] = Err Line
-two_words (first ∷ words) = do
-  a ← filled first
-  b ← one_word words
-  Ok (a, b)
-
--- the number from low to high that a word is
-abbrev pub at_least : ℕ → ℕ → Option ℕ
-at_least low n = if nat_le low n then Some n else None
-
-abbrev pub number_from : ℕ → ℕ → List ℕ → Option ℕ
-number_from low high word = option_and_then (at_least low) (number_of high word)
-
 -- the first line
 unfoldable pub head_line : List NamedSig → List ℕ → Result State FileKind
 head_line sigs line = if bytes_eq line head then Ok (record { stage = Due; sigs = sigs }) else Err kind.Head
@@ -72,7 +44,7 @@ head_line sigs line = if bytes_eq line head then Ok (record { stage = Due; sigs 
 -- `signature DEPTH COUNT`, of which these are the words behind the first
 unfoldable pub signature_line : List NamedSig → List (List ℕ) → Result State FileKind
 signature_line sigs words = do
-  pair ← two_words words
+  pair ← two_words words Line
   _ ← unless (length sigs == 4096) Limit
   depth ← or_else (number_from 1 32 pair.0) Number
   count ← or_else (number_from 2 32 pair.1) Number
@@ -81,7 +53,7 @@ signature_line sigs words = do
 -- `end N`
 unfoldable pub end_line : List NamedSig → List (List ℕ) → Result State FileKind
 end_line sigs words = do
-  word ← one_word words
+  word ← one_word words Line
   n ← or_else (number_of 4096 word) Number
   _ ← unless (not (n == length sigs)) Count
   Ok (record { stage = Closed; sigs = sigs })
@@ -93,10 +65,6 @@ due_line sigs (first ∷ words) =
     if bytes_eq first (codes "signature") then signature_line sigs words
     else (if bytes_eq first (codes "end") then end_line sigs words
     else Err Line)
-
--- whether a word has exactly one colon
-abbrev pub has_sides : List ℕ → Bool
-has_sides word = is_some (sides_of word)
 
 -- a frame
 unfoldable pub frame_of : List ℕ → Result NamedFrame FileKind

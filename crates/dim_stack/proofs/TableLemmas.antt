@@ -9,14 +9,14 @@ use Rattle.std.specs.declared.cmp.Ordering.{Ordering}
 use Rattle.std.specs.declared.cmp.Ordering.TheVariants.{Less, Equal, Greater}
 use Rattle.std.proofs.lemmas.Bool.{cases_Bool, or_cases, false≢true, false_from_ne_true}
 use Rattle.std.proofs.lemmas.Cmp.{nat_list_cmp_total, nat_list_eq_equiv, tied_itself}
-use Rattle.std.proofs.lemmas.List.Elements.{All-cons, All-head, All-tail}
+use Rattle.std.proofs.lemmas.List.Elements.{All-cons, All-head, All-tail, Contains-append_left, Contains-append_right}
 use Rattle.std.proofs.lemmas.Map.Keys.{any_passes_from_place, apart_from_distinct, sorted_from_all_adjacent}
 use Rattle.std.proofs.lemmas.Map.Text.{is_eq-slice_cmp}
 use Rattle.std.proofs.lemmas.Option.{slice_get-get_or}
 use Rattle.std.proofs.lemmas.Slice.Eq.{bytes_eq-Decides}
 use Rattle.indexmap.proofs.CallerLemmas.{Contains-list_any}
 use Rattle.dim_text.specs.Naming.{IsName}
-use Rattle.dim_stack.specs.Names.{AreAscending, HasNamesOf, HasSameNames, IsTable, name_cmp, table_of, with_name}
+use Rattle.dim_stack.specs.Names.{AreAscending, HasFirstLaw, HasOwnLaw, HasSecondLaw, HasNamesOf, HasSameNames, IsTable, name_cmp, table_of, with_name}
 
 pub name_total : IsTotalOrder name_cmp
 name_total = nat_list_cmp_total
@@ -235,10 +235,10 @@ sorted_ascends names up apart = sorted_from_all_adjacent name_total names [] (λ
         go Greater e = absurd (false≢true (sym low ∙ ap is_lt (flip_names x y Greater e)))
 
 -- between `has` and `Contains`
-has_contains : (q : List ℕ) (xs : List (List ℕ)) → has q xs ≡ true → Contains xs q
+pub has_contains : (q : List ℕ) (xs : List (List ℕ)) → has q xs ≡ true → Contains xs q
 has_contains q xs e = Contains-list_any bytes_eq same_bytes xs q e
 
-contains_has : (q : List ℕ) (xs : List (List ℕ)) → Contains xs q → has q xs ≡ true
+pub contains_has : (q : List ℕ) (xs : List (List ℕ)) → Contains xs q → has q xs ≡ true
 contains_has q xs c = any_passes_from_place (bytes_eq q) xs c.0 q (slice_get-get_or xs c.0 q c.1 ∙ ap Some c.2) (bytes_itself q)
 
 pub has_same_names : (xs ys : List (List ℕ)) → ((q : List ℕ) → has q xs ≡ has q ys) → HasSameNames xs ys
@@ -250,3 +250,13 @@ same_names_has xs ys h q =
       | inl e ↦ e ∙ sym (contains_has q ys ((h q).0 (has_contains q xs e)))
       | inr e ↦ e ∙ sym (false_from_ne_true (has q ys) (λ f. false≢true (sym e ∙ contains_has q xs ((h q).1 (has_contains q ys f)))))
     ]
+
+-- what a table has
+pub has_own : HasOwnLaw
+has_own names name there = has_contains name (table_of names) (has-table_of name names ∙ contains_has name names there)
+
+pub has_first : HasFirstLaw
+has_first a b names h name there = has_own (a ++ b) name (Contains-append_left a b name (h name there))
+
+pub has_second : HasSecondLaw
+has_second a b names h name there = has_own (a ++ b) name (Contains-append_right a b name (h name there))

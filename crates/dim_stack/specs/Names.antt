@@ -1,5 +1,5 @@
 -- Tables of names, and stacks whose functions have names.
-use Rattle.std.specs.Prelude.{◌≡◌, ◌≢◌, ℕ, ◌<◌, ◌^◌, ◌↔◌, ◌||◌, All, Contains, position, slice_get, slice_index_or, List, [], ◌∷◌, length, Option, Some, None}
+use Rattle.std.specs.Prelude.{◌≡◌, ◌≢◌, ℕ, ◌<◌, ◌^◌, ◌↔◌, ◌||◌, All, Contains, position, slice_get, slice_index_or, List, [], ◌∷◌, ◌++◌, length, Option, Some, None}
 use Rattle.std.specs.List.{list_any}
 use Rattle.std.specs.List.Sorted.{IsStrictlySortedBy}
 use Rattle.std.specs.Ordering.{nat_cmp, on, then_cmp, match_ordering}
@@ -42,11 +42,26 @@ HasNamesOf xs ys both = (name : List ℕ) → list_any (bytes_eq name) both ≡ 
 abbrev pub HasSameNames : List (List ℕ) → List (List ℕ) → Type 0
 HasSameNames xs ys = (name : List ℕ) → Contains xs name ↔ Contains ys name
 
--- it ascends
+-- each of some names stands in a table
+abbrev pub HasNames : List (List ℕ) → List (List ℕ) → Type 0
+HasNames table names = (name : List ℕ) → Contains names name → Contains table name
+
+-- the table of names has each of them
+abbrev pub HasOwnLaw : Type 0
+HasOwnLaw = (names : List (List ℕ)) → HasNames (table_of names) names
+
+-- the table of two lists has the names that either has
+abbrev pub HasFirstLaw : Type 0
+HasFirstLaw = (a b names : List (List ℕ)) → HasNames a names → HasNames (table_of (a ++ b)) names
+
+abbrev pub HasSecondLaw : Type 0
+HasSecondLaw = (a b names : List (List ℕ)) → HasNames b names → HasNames (table_of (a ++ b)) names
+
+-- the table of names ascends
 abbrev pub AscendingLaw : Type 0
 AscendingLaw = (names : List (List ℕ)) → AreAscending (table_of names)
 
--- it has the same names
+-- it has the same names as they
 abbrev pub SameNamesLaw : Type 0
 SameNamesLaw = (names : List (List ℕ)) → HasSameNames (table_of names) names
 

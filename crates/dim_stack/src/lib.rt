@@ -9,13 +9,16 @@ mod names;
 mod order;
 
 pub use agreement::agree;
-pub use name_laws::{name_number_law, name_order_law, table_law};
+pub use name_laws::{merged_law, name_number_law, name_order_law, table_law};
 pub use names::Names;
 pub use order::compare;
 use std::marker::Model;
 
 #[cfg(test)]
 mod tests;
+
+/// How many frames a stack has at most.
+pub const MOST_FRAMES: usize = 32;
 
 /// A function, by its number, and the offset of an instruction in it.
 ///
@@ -65,9 +68,7 @@ impl Stack {
     {
         let mut all = [Frame { func: 0, at: 0 }; 32];
         let len = frames.len();
-        for i in 0..len {
-            all[i] = frames[i];
-        }
+        all[..len].copy_from_slice(frames);
         Stack { len, frames: all }
     }
 
