@@ -3,7 +3,7 @@ use Rattle.std.proofs.Common.{◌≡◌, ◌<◌, ◌≤◌, ◌+◌, ℕ, suc, 
 use Rattle.std.specs.Prelude.{slice_get, unwrap_or, IfOk}
 use Rattle.std.specs.Option.{option_map}
 use Rattle.std.proofs.lemmas.List.{length-map, length-drop, drop_more, drop-set-lt, take_more, take_more_set, map_push}
-use Rattle.std.proofs.lemmas.List.Elements.{All-nil, All-cons, All-map, All-weaker, Contains-append_left}
+use Rattle.std.proofs.lemmas.List.Elements.{All-nil, All-cons, All-map, All-weaker}
 use Rattle.std.proofs.lemmas.List.Sums.{sum_by-cons}
 use Rattle.std.proofs.lemmas.Option.{slice_get-map, slice_get-get_or}
 use Rattle.dim_text.specs.Naming.{IsName}
@@ -12,9 +12,9 @@ use Rattle.std.specs.declared.cmp.Ordering.{Ordering}
 use Rattle.std.specs.declared.cmp.Ordering.TheVariants.{Less, Equal, Greater}
 use Rattle.dim_stack.specs.Names.{table_of, with_name, name_cmp, number_of as number_among}
 use Rattle.dim_stack.proofs.NumberLemmas.{missing}
-use Rattle.dim_stack.proofs.TableLemmas.{has_same_names, has-table_of}
+use Rattle.dim_stack.proofs.TableLemmas.{has_own}
 use Rattle.dim_asm.specs.Code.{Code, Function, lock_count, func_count, func_names, number_in, name_in, locals_in, op_in, op_count, AreNames, IsFunction, IsProgram}
-use Rattle.dim_asm.specs.Bound.{own_names, numbered, bound, KeptLaw, NumbersLaw, LastLaw, OwnNamesLaw, MergedLaw}
+use Rattle.dim_asm.specs.Bound.{own_names, numbered, bound, KeptLaw, NumbersLaw, LastLaw, OwnNamesLaw}
 
 -- ---- what binding keeps
 pub names-numbered : (names : List (List ℕ)) (fs : List Function) → func_names (map (numbered names) fs) ≡ func_names fs
@@ -128,9 +128,6 @@ pub last : LastLaw
 last names others p = ap (λ fs. record p { funcs = fs }) (numbered-again names others p.funcs)
 
 -- ---- tables
-table_has : (names : List (List ℕ)) (name : List ℕ) → Contains names name → Contains (table_of names) name
-table_has names name there = (has_same_names (table_of names) names (λ q. has-table_of q names) name).1 there
-
 length-with_name : (name : List ℕ) (names : List (List ℕ)) → length (with_name name names) ≤ length names + 1
 length-with_name name [] = omega arith
 length-with_name name (x ∷ xs) = by (name_cmp name x) (length-with_name name xs)
@@ -146,10 +143,7 @@ length-table_of [] = omega arith
 length-table_of (name ∷ names) = omega (arith, length-with_name name (table_of names), length-table_of names)
 
 pub own : OwnNamesLaw
-own p name there = table_has (func_names p.funcs) name there
-
-pub merged : MergedLaw
-merged names others p known name there = table_has (names ++ others) name (Contains-append_left names others name (known name there))
+own p = has_own (func_names p.funcs)
 
 -- names are names
 pub named : (names : List (List ℕ)) → AreNames names → All IsName names

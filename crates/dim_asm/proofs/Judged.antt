@@ -1,5 +1,5 @@
 -- A line that stands at its place is judged to say what it spells.
-use Rattle.std.proofs.Common.{◌≡◌, ◌≢◌, ◌<◌, ◌≤◌, ◌^◌, ℕ, true, false, List, [], ◌∷◌, length, Some, Ok, arith, refl, ap, ◌∙◌}
+use Rattle.std.proofs.Common.{◌≡◌, ◌≢◌, ◌<◌, ◌≤◌, ◌^◌, ℕ, true, false, List, [], ◌∷◌, length, Some, Result, Ok, arith, refl, ap, ◌∙◌}
 use Rattle.std.specs.Prelude.{◌==◌, codes, not, nat_lt, suc, FitsSigned, ℤ, pos, negsuc}
 use Rattle.std.specs.Int.{w64}
 use Rattle.std.specs.List.{AllByRecursion, list_all}
@@ -14,6 +14,9 @@ use Rattle.dim_text.specs.Naming.{name_of, is_name_byte, IsName}
 use Rattle.dim_text.proofs.Cutting.{words_of-line_of}
 use Rattle.dim_text.proofs.Digits.{number_of-decimal, signed_of-signed_decimal, HasNo-decimal}
 use Rattle.dim_text.proofs.NameLemmas.{HasNo-name}
+use Rattle.dim_text.specs.Words.{filled}
+use Rattle.dim_asm.specs.declared.fault.AsmKind.{AsmKind}
+use Rattle.dim_asm.specs.declared.fault.AsmKind.TheVariants.{Shape}
 use Rattle.dim_asm.specs.declared.op.Op.{Op}
 use Rattle.dim_asm.specs.declared.op.Op.TheVariants as op
 use Rattle.dim_asm.specs.declared.mnemonic.Counting.{Counting}
@@ -25,7 +28,7 @@ use Rattle.dim_asm.specs.declared.reader.Stage.{Stage}
 use Rattle.dim_asm.specs.declared.reader.Stage.TheVariants as stage
 use Rattle.dim_asm.specs.Source.{Source, Draft, Ready, Refers, Statement, Head, LockLine, FuncLine, OpLine, EndLine, ThreadLine, Close, draft_count, last_size}
 use Rattle.dim_asm.specs.Table.{mnemonic_of, most_of, counted}
-use Rattle.dim_asm.specs.Judging.{filled, draft_of, lock_line, func_line, thread_line, op_line, end_line, close_line, after_locks, in_function, after_function, after_thread, judged}
+use Rattle.dim_asm.specs.Judging.{draft_of, lock_line, func_line, thread_line, op_line, end_line, close_line, after_locks, in_function, after_function, after_thread, judged}
 use Rattle.dim_asm.specs.Spelling.{naming_word, op_words, draft_words, spelled}
 use Rattle.dim_asm.specs.Grammar.{may_follow, IsReady, IsDraft, HasPlace}
 
@@ -137,18 +140,18 @@ one_line s (ThreadLine func argument) h = line_has_no (codes "thread" ∷ func �
 one_line s Close h = plain_has_no (codes "end program") refl
 
 -- ---- words that are taken
-filled_number : (n : ℕ) → n < 2 ^ 64 → filled (decimal n) ≡ Ok (decimal n)
+filled_number : (n : ℕ) → n < 2 ^ 64 → ◌≡◌ {A = Result (List ℕ) AsmKind} (filled (decimal n) Shape) (Ok (decimal n))
 filled_number n small = go (decimal n) (decimal_nonempty n small)
   where
-    go : (word : List ℕ) → 0 < length word → filled word ≡ Ok word
+    go : (word : List ℕ) → 0 < length word → ◌≡◌ {A = Result (List ℕ) AsmKind} (filled word Shape) (Ok word)
     go [] h = absurd (omega arith)
     go (c ∷ cs) h = refl
 
-filled_signed : (z : ℤ) → FitsSigned w64 z → filled (signed_decimal z) ≡ Ok (signed_decimal z)
+filled_signed : (z : ℤ) → FitsSigned w64 z → ◌≡◌ {A = Result (List ℕ) AsmKind} (filled (signed_decimal z) Shape) (Ok (signed_decimal z))
 filled_signed (pos n) fits = filled_number n (omega (arith, fits))
 filled_signed (negsuc n) fits = refl
 
-filled_name : (name : List ℕ) → IsName name → filled name ≡ Ok name
+filled_name : (name : List ℕ) → IsName name → ◌≡◌ {A = Result (List ℕ) AsmKind} (filled name Shape) (Ok name)
 filled_name [] is = cc
 filled_name (c ∷ cs) is = refl
 

@@ -16,6 +16,8 @@ use Rattle.dim_text.specs.Reading.{◌>>=◌, or_else}
 use Rattle.dim_text.proofs.Cutting.{line_of-words_of}
 use Rattle.dim_text.proofs.Digits.{number_of-Some, signed_of-Some}
 use Rattle.dim_text.proofs.ReadingLemmas.{bind_ok, or_else_ok}
+use Rattle.dim_text.specs.Words.{unless, one_word, two_words}
+use Rattle.dim_text.proofs.WordLemmas.{unless_ok, chosen, one_word_ok, two_words_ok}
 use Rattle.dim_asm.specs.declared.op.Op.TheVariants as op
 use Rattle.dim_asm.specs.declared.fault.AsmKind.TheVariants.{Word, Number, Name, Double, Shape, Limit}
 use Rattle.dim_asm.specs.declared.mnemonic.Counting.{Counting}
@@ -27,14 +29,9 @@ use Rattle.dim_asm.specs.declared.reader.Stage.TheVariants as stage
 use Rattle.dim_asm.specs.Code.{has_name}
 use Rattle.dim_asm.specs.Source.{Source, Draft, Ready, Refers, Statement, Head, LockLine, FuncLine, OpLine, EndLine, ThreadLine, Close, names_of, draft_count, last_size}
 use Rattle.dim_asm.specs.Table.{rows, mnemonic_of, most_of, counted}
-use Rattle.dim_asm.specs.Judging.{unless, filled, no_word, one_word, two_words, argument_word, draft_of, lock_line, func_line, thread_line, op_line, end_line, close_line, after_locks, in_function, after_function, after_thread, judged, head}
+use Rattle.dim_asm.specs.Judging.{no_word, argument_word, draft_of, lock_line, func_line, thread_line, op_line, end_line, close_line, after_locks, in_function, after_function, after_thread, judged, head}
 use Rattle.dim_asm.specs.Spelling.{naming_word, op_words, draft_words, spelled}
 use Rattle.dim_asm.specs.Grammar.{may_follow, IsReady, IsDraft, HasPlace}
-use Rattle.dim_asm.proofs.Linked.{unless_ok}
-
-chosen : {X : Type 0} (b : Bool) (x y z : X) → cond b x y ≡ z → ((b ≡ true) × (x ≡ z)) ⊎ ((b ≡ false) × (y ≡ z))
-chosen true x y z e = inl (refl, e)
-chosen false x y z e = inr (refl, e)
 
 pub same_bytes : (a b : List ℕ) → bytes_eq a b ≡ true → a ≡ b
 same_bytes a b e = (bytes_eq-Decides a b).0 e
@@ -43,32 +40,15 @@ same_bytes a b e = (bytes_eq-Decides a b).0 e
 both_words : (a b v w : List ℕ) → a ≡ v → b ≡ w → a ∷ b ∷ [] ≡ v ∷ w ∷ []
 both_words a b v w e f = rw (e, f) refl
 
-filled_ok : (word w : List ℕ) → filled word ≡ Ok w → word ≡ w
-filled_ok [] w e = cc
-filled_ok (c ∷ cs) w e = cc
-
 no_word_ok : (words : List (List ℕ)) (u : Unit {0}) → no_word words ≡ Ok u → words ≡ []
 no_word_ok [] u e = refl
 no_word_ok (word ∷ words) u e = cc
 
-one_word_ok : (words : List (List ℕ)) (w : List ℕ) → one_word words ≡ Ok w → words ≡ w ∷ []
-one_word_ok [] w e = cc
-one_word_ok (word ∷ []) w e = ap (λ x. x ∷ []) (filled_ok word w e)
-one_word_ok (word ∷ next ∷ words) w e = cc
+one_only : (words : List (List ℕ)) (w v : List ℕ) → one_word words Shape ≡ Ok w → w ≡ v → words ≡ v ∷ []
+one_only words w v e f = one_word_ok words w Shape e ∙ ap (λ x. x ∷ []) f
 
-two_words_ok : (words : List (List ℕ)) (p : List ℕ × List ℕ) → two_words words ≡ Ok p → words ≡ p.0 ∷ p.1 ∷ []
-two_words_ok [] p e = cc
-two_words_ok (first ∷ words) p e =
-    let a = bind_ok (filled first) (λ x. one_word words >>= λ y. let pair : List ℕ × List ℕ = (x, y) in Ok pair) p e in
-    let b = bind_ok (one_word words) (λ y. let pair : List ℕ × List ℕ = (a.0, y) in Ok pair) p a.2 in
-    let pair : ◌≡◌ {A = List ℕ × List ℕ} (a.0, b.0) p = cc (b.2) in
-    ap (λ x. x ∷ words) (filled_ok first a.0 a.1) ∙ ap (λ ws. a.0 ∷ ws) (one_word_ok words b.0 b.1) ∙ ap (λ q. q.0 ∷ q.1 ∷ []) pair
-
-one_only : (words : List (List ℕ)) (w v : List ℕ) → one_word words ≡ Ok w → w ≡ v → words ≡ v ∷ []
-one_only words w v e f = one_word_ok words w e ∙ ap (λ x. x ∷ []) f
-
-two_only : (words : List (List ℕ)) (p : List ℕ × List ℕ) (v w : List ℕ) → two_words words ≡ Ok p → p.0 ≡ v → p.1 ≡ w → words ≡ v ∷ w ∷ []
-two_only words p v w e f g = two_words_ok words p e ∙ both_words p.0 p.1 v w f g
+two_only : (words : List (List ℕ)) (p : List ℕ × List ℕ) (v w : List ℕ) → two_words words Shape ≡ Ok p → p.0 ≡ v → p.1 ≡ w → words ≡ v ∷ w ∷ []
+two_only words p v w e f g = two_words_ok words p Shape e ∙ both_words p.0 p.1 v w f g
 
 spelled_line : (words ws : List (List ℕ)) → words ≡ ws → line_of words ≡ line_of ws
 spelled_line words ws e = ap line_of e
@@ -192,7 +172,7 @@ Stands s words x = (line_of words ≡ spelled x) × HasPlace s x
 lock_stands : (s : Source) (words : List (List ℕ)) (x : Statement) → lock_line s words ≡ Ok x → (name : List ℕ) × (LockLine name ≡ x) × Stands s (codes "lock" ∷ words) (LockLine name)
 unfolding lock_line
 lock_stands s words x e =
-    let a = bind_ok (one_word words) (λ word. unless (length s.locks == 256) Limit >>= λ _. or_else (name_of word) Name >>= λ name. unless (has_name s.locks name) Double >>= λ _. Ok (LockLine name)) x e in
+    let a = bind_ok (one_word words Shape) (λ word. unless (length s.locks == 256) Limit >>= λ _. or_else (name_of word) Name >>= λ name. unless (has_name s.locks name) Double >>= λ _. Ok (LockLine name)) x e in
     let b = bind_ok (unless (length s.locks == 256) Limit) (λ _. or_else (name_of a.0) Name >>= λ name. unless (has_name s.locks name) Double >>= λ _. Ok (LockLine name)) x a.2 in
     let c = bind_ok (or_else (name_of a.0) Name) (λ name. unless (has_name s.locks name) Double >>= λ _. Ok (LockLine name)) x b.2 in
     let d = bind_ok (unless (has_name s.locks c.0) Double) (λ _. Ok (LockLine c.0)) x c.2 in
@@ -206,7 +186,7 @@ lock_stands s words x e =
 func_stands : (s : Source) (words : List (List ℕ)) (x : Statement) → func_line s words ≡ Ok x → (name : List ℕ) × (locals : ℕ) × (FuncLine name locals ≡ x) × Stands s (codes "func" ∷ words) (FuncLine name locals)
 unfolding func_line
 func_stands s words x e =
-    let a = bind_ok (two_words words) (λ pair. unless (length s.funcs == 256) Limit >>= λ _. or_else (name_of pair.0) Name >>= λ name. or_else (number_of 16 pair.1) Number >>= λ locals. unless (has_name (names_of s) name) Double >>= λ _. Ok (FuncLine name locals)) x e in
+    let a = bind_ok (two_words words Shape) (λ pair. unless (length s.funcs == 256) Limit >>= λ _. or_else (name_of pair.0) Name >>= λ name. or_else (number_of 16 pair.1) Number >>= λ locals. unless (has_name (names_of s) name) Double >>= λ _. Ok (FuncLine name locals)) x e in
     let b = bind_ok (unless (length s.funcs == 256) Limit) (λ _. or_else (name_of a.0.0) Name >>= λ name. or_else (number_of 16 a.0.1) Number >>= λ locals. unless (has_name (names_of s) name) Double >>= λ _. Ok (FuncLine name locals)) x a.2 in
     let c = bind_ok (or_else (name_of a.0.0) Name) (λ name. or_else (number_of 16 a.0.1) Number >>= λ locals. unless (has_name (names_of s) name) Double >>= λ _. Ok (FuncLine name locals)) x b.2 in
     let d = bind_ok (or_else (number_of 16 a.0.1) Number) (λ locals. unless (has_name (names_of s) c.0) Double >>= λ _. Ok (FuncLine c.0 locals)) x c.2 in
@@ -226,7 +206,7 @@ func_stands s words x e =
 thread_stands : (s : Source) (words : List (List ℕ)) (x : Statement) → thread_line s words ≡ Ok x → (func : List ℕ) × (argument : ℤ) × (ThreadLine func argument ≡ x) × Stands s (codes "thread" ∷ words) (ThreadLine func argument)
 unfolding thread_line
 thread_stands s words x e =
-    let a = bind_ok (two_words words) (λ pair. unless (length s.threads == 32) Limit >>= λ _. or_else (name_of pair.0) Name >>= λ func. or_else (signed_of pair.1) Number >>= λ argument. Ok (ThreadLine func argument)) x e in
+    let a = bind_ok (two_words words Shape) (λ pair. unless (length s.threads == 32) Limit >>= λ _. or_else (name_of pair.0) Name >>= λ func. or_else (signed_of pair.1) Number >>= λ argument. Ok (ThreadLine func argument)) x e in
     let b = bind_ok (unless (length s.threads == 32) Limit) (λ _. or_else (name_of a.0.0) Name >>= λ func. or_else (signed_of a.0.1) Number >>= λ argument. Ok (ThreadLine func argument)) x a.2 in
     let c = bind_ok (or_else (name_of a.0.0) Name) (λ func. or_else (signed_of a.0.1) Number >>= λ argument. Ok (ThreadLine func argument)) x b.2 in
     let d = bind_ok (or_else (signed_of a.0.1) Number) (λ argument. Ok (ThreadLine c.0 argument)) x c.2 in

@@ -10,6 +10,8 @@ use Rattle.std.proofs.lemmas.List.Quantifiers.{position-Some}
 use Rattle.std.proofs.lemmas.List.Sums.{sum_by-cons}
 use Rattle.dim_text.specs.Reading.{◌>>=◌, or_else, in_line}
 use Rattle.dim_text.proofs.ReadingLemmas.{bind_ok, or_else_ok, in_line_ok}
+use Rattle.dim_text.specs.Words.{unless}
+use Rattle.dim_text.proofs.WordLemmas.{unless_ok}
 use Rattle.dim_asm.specs.declared.fault.AsmKind.{AsmKind}
 use Rattle.dim_asm.specs.declared.fault.AsmKind.TheVariants.{Unknown, Shape}
 use Rattle.dim_asm.specs.declared.op.Op.{Op}
@@ -20,13 +22,8 @@ use Rattle.dim_asm.specs.declared.mnemonic.Naming.TheVariants as naming
 use Rattle.dim_asm.specs.Faults.{fault}
 use Rattle.dim_asm.specs.Code.{Code, Function, place_of, op_count, func_names, IsFine, IsWithin, IsFunction, IsProgram}
 use Rattle.dim_asm.specs.Source.{Source, Draft, Ready, Refers, DraftFunction, DraftStart, names_of, draft_count}
-use Rattle.dim_asm.specs.Judging.{unless}
 use Rattle.dim_asm.specs.Grammar.{IsReady, IsDraft, IsOpen, IsStart, AreFilled, IsSource}
 use Rattle.dim_asm.specs.Linking.{Tables, leaves, looks_in, referring, link_draft, link_start, each_line, link_function, link_functions, link, tables_of, first_function, first_thread}
-
-pub unless_ok : (b : Bool) (kind : AsmKind) (u : Unit {0}) → unless b kind ≡ Ok u → b ≡ false
-unless_ok true kind u e = cc
-unless_ok false kind u e = refl
 
 pub place_within : (names : List (List ℕ)) (name : List ℕ) (i : ℕ) → place_of names name ≡ Some i → i < length names
 place_within names name i e = (position-Some (bytes_eq name) names i [] e).0

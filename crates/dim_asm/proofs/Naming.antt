@@ -11,6 +11,7 @@ use Rattle.std.proofs.lemmas.Slice.Eq.{bytes_eq-Decides}
 use Rattle.dim_text.specs.Naming.{IsName}
 use Rattle.dim_text.specs.Reading.{◌>>=◌, or_else, in_line}
 use Rattle.dim_text.proofs.ReadingLemmas.{bind_ok, or_else_ok, in_line_ok}
+use Rattle.dim_text.specs.Words.{unless}
 use Rattle.dim_stack.specs.Names.{table_of}
 use Rattle.dim_asm.specs.declared.fault.AsmKind.{AsmKind}
 use Rattle.dim_asm.specs.declared.fault.AsmKind.TheVariants.{Unknown, Shape}
@@ -22,7 +23,6 @@ use Rattle.dim_asm.specs.declared.mnemonic.Naming.TheVariants as naming
 use Rattle.dim_asm.specs.Faults.{fault}
 use Rattle.dim_asm.specs.Code.{Code, Function, place_of, has_name, func_names, AreNames, IsProgram}
 use Rattle.dim_asm.specs.Source.{Source, Draft, Ready, Refers, DraftFunction, DraftStart, names_of}
-use Rattle.dim_asm.specs.Judging.{unless}
 use Rattle.dim_asm.specs.Grammar.{IsReady, IsDraft, IsOpen, IsStart, IsSource}
 use Rattle.dim_asm.specs.Linking.{Tables, leaves, looks_in, referring, link_draft, link_start, each_line, link_function, link_functions, link, tables_of, first_function, first_thread}
 use Rattle.dim_asm.specs.Bound.{own_names, numbered, bound}

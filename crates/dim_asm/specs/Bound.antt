@@ -1,15 +1,11 @@
 -- Programs whose functions have their numbers in a table of names.
-use Rattle.std.specs.Prelude.{◌≡◌, ℕ, ◌<◌, List, ◌++◌, map, Contains, unwrap_or, Some}
-use Rattle.dim_stack.specs.Names.{table_of, number_of as number_among}
+use Rattle.std.specs.Prelude.{◌≡◌, ℕ, ◌<◌, List, map, unwrap_or, Some}
+use Rattle.dim_stack.specs.Names.{HasNames, table_of, number_of as number_among}
 use Rattle.dim_asm.specs.Code.{Code, Function, func_count, func_names, func_name_of, number_of, locals_of, op_at}
 
 -- the table of the names of its functions
 abbrev pub own_names : Code → List (List ℕ)
 own_names p = table_of (func_names p.funcs)
-
--- a table has the names of all functions
-abbrev pub KnowsFuncs : List (List ℕ) → Code → Type 0
-KnowsFuncs names p = (name : List ℕ) → Contains (func_names p.funcs) name → Contains names name
 
 -- each function has the number that its name has in the table
 abbrev pub IsBound : List (List ℕ) → Code → Type 0
@@ -38,15 +34,12 @@ KeptLaw = (names : List (List ℕ)) (p : Code) → SameButNumbers p (bound names
 
 -- bound to a table that has all names, a program has its numbers there
 abbrev pub NumbersLaw : Type 0
-NumbersLaw = (names : List (List ℕ)) (p : Code) → KnowsFuncs names p → IsBound names (bound names p)
+NumbersLaw = (names : List (List ℕ)) (p : Code) → HasNames names (func_names p.funcs) → IsBound names (bound names p)
 
 -- the last table counts
 abbrev pub LastLaw : Type 0
 LastLaw = (names others : List (List ℕ)) (p : Code) → bound names (bound others p) ≡ bound names p
 
--- the table of its own names has all names, and so has a table that is merged from one that has them
+-- the table of its own names has all names
 abbrev pub OwnNamesLaw : Type 0
-OwnNamesLaw = (p : Code) → KnowsFuncs (own_names p) p
-
-abbrev pub MergedLaw : Type 0
-MergedLaw = (names others : List (List ℕ)) (p : Code) → KnowsFuncs names p → KnowsFuncs (table_of (names ++ others)) p
+OwnNamesLaw = (p : Code) → HasNames (own_names p) (func_names p.funcs)

@@ -5,6 +5,7 @@ use Rattle.dim_text.specs.Cuts.{words_of, lines_of}
 use Rattle.dim_text.specs.Numerals.{number_of, signed_of}
 use Rattle.dim_text.specs.Naming.{name_of}
 use Rattle.dim_text.specs.Reading.{◌>>=◌, or_else, read_from}
+use Rattle.dim_text.specs.Words.{unless, one_word, two_words}
 use Rattle.dim_asm.specs.declared.op.Op.TheVariants as op
 use Rattle.dim_asm.specs.declared.fault.AsmKind.{AsmKind}
 use Rattle.dim_asm.specs.declared.fault.AsmKind.TheVariants.{Word, Number, Name, Double, Shape, Limit}
@@ -26,36 +27,15 @@ pub record State : Type 0 where
   pub stage : Stage
   pub source : Source
 
-abbrev pub unless : Bool → AsmKind → Result (Unit {0}) AsmKind
-unless true kind = Err kind
-unless false kind = Ok tt
-
--- a word that isn't empty, as it is between two spaces
-abbrev pub filled : List ℕ → Result (List ℕ) AsmKind
-filled [] = Err Shape
-filled (c ∷ cs) = Ok (c ∷ cs)
-
--- the words behind the first one: none, one, or two
+-- no word behind the first one
 abbrev pub no_word : List (List ℕ) → Result (Unit {0}) AsmKind
 no_word [] = Ok tt
 no_word (word ∷ words) = Err Shape
 
-abbrev pub one_word : List (List ℕ) → Result (List ℕ) AsmKind
-one_word [] = Err Shape
-one_word (word ∷ []) = filled word
-one_word (word ∷ next ∷ words) = Err Shape
-
-abbrev pub two_words : List (List ℕ) → Result (List ℕ × List ℕ) AsmKind
-two_words [] = Err Shape
-two_words (first ∷ words) = do
-  a ← filled first
-  b ← one_word words
-  Ok (a, b)
-
 -- `lock NAME`
 unfoldable pub lock_line : Source → List (List ℕ) → Result Statement AsmKind
 lock_line s words = do
-  word ← one_word words
+  word ← one_word words Shape
   _ ← unless (length s.locks == 256) Limit
   name ← or_else (name_of word) Name
   _ ← unless (has_name s.locks name) Double
@@ -64,7 +44,7 @@ lock_line s words = do
 -- `func NAME LOCALS`
 unfoldable pub func_line : Source → List (List ℕ) → Result Statement AsmKind
 func_line s words = do
-  pair ← two_words words
+  pair ← two_words words Shape
   _ ← unless (length s.funcs == 256) Limit
   name ← or_else (name_of pair.0) Name
   locals ← or_else (number_of 16 pair.1) Number
@@ -74,7 +54,7 @@ func_line s words = do
 -- `thread FUNCTION ARGUMENT`
 unfoldable pub thread_line : Source → List (List ℕ) → Result Statement AsmKind
 thread_line s words = do
-  pair ← two_words words
+  pair ← two_words words Shape
   _ ← unless (length s.threads == 32) Limit
   func ← or_else (name_of pair.0) Name
   argument ← or_else (signed_of pair.1) Number
@@ -83,9 +63,9 @@ thread_line s words = do
 -- the argument of an instruction: the empty word where it has none
 abbrev pub argument_word : Mnemonic → List (List ℕ) → Result (List ℕ) AsmKind
 argument_word (Bare op) words = no_word words >>= λ _. Ok []
-argument_word Push words = one_word words
-argument_word (Counts counting) words = one_word words
-argument_word (Names naming) words = one_word words
+argument_word Push words = one_word words Shape
+argument_word (Counts counting) words = one_word words Shape
+argument_word (Names naming) words = one_word words Shape
 
 unfoldable pub draft_of : Mnemonic → List ℕ → Result Draft AsmKind
 draft_of (Bare op) word = Ok (Ready op)

@@ -1,6 +1,7 @@
 -- The second pass: numbers for names.
 use Rattle.std.specs.Prelude.{ℕ, ◌+◌, ◌*◌, Bool, false, nat_lt, List, [], ◌∷◌, length, Result, Ok}
 use Rattle.dim_text.specs.Reading.{◌>>=◌, or_else, in_line}
+use Rattle.dim_text.specs.Words.{unless}
 use Rattle.dim_asm.specs.declared.op.Op.{Op}
 use Rattle.dim_asm.specs.declared.op.Op.TheVariants as op
 use Rattle.dim_asm.specs.declared.fault.AsmKind.{AsmKind}
@@ -12,7 +13,6 @@ use Rattle.dim_asm.specs.declared.start.Start.{Start}
 use Rattle.dim_asm.specs.Faults.{fault}
 use Rattle.dim_asm.specs.Code.{Code, Function, place_of}
 use Rattle.dim_asm.specs.Source.{Source, Draft, Ready, Refers, DraftFunction, DraftStart, names_of, draft_count}
-use Rattle.dim_asm.specs.Judging.{unless}
 
 -- the names of the locks and of the functions
 pub record Tables : Type 0 where

@@ -1,7 +1,8 @@
 //! Numbers of functions, from a table of names.
 ghost use Rattle.std.specs.Prelude.{◌≡◌, ◌≤◌, length, map, IfOk};
+ghost use Rattle.dim_stack.specs.Names.{HasNames};
 ghost use Rattle.dim_asm.specs.Code.{func_names};
-ghost use Rattle.dim_asm.specs.Bound.{own_names, KnowsFuncs, IsBound, numbered, bound, SameButNumbers, KeptLaw, NumbersLaw, LastLaw, OwnNamesLaw, MergedLaw};
+ghost use Rattle.dim_asm.specs.Bound.{own_names, IsBound, numbered, bound, SameButNumbers, KeptLaw, NumbersLaw, LastLaw, OwnNamesLaw};
 
 use crate::Program;
 use crate::program::Function;
@@ -13,7 +14,7 @@ impl Program {
     /// The table of its function names.
     pub fn names(&self, alloc: Global) -> Result<Names, OutOfMemory>
         ensures table { IfOk result (λ names. names ≡ own_names self.now) }
-        ensures known { IfOk result (λ names. KnowsFuncs names self.now) }
+        ensures known { IfOk result (λ names. HasNames names (func_names self.now.funcs)) }
         ensures few { IfOk result (λ names. length names ≤ 256) }
     {
         let words = words_of(alloc, &self.funcs)?;
@@ -23,7 +24,7 @@ impl Program {
     /// Binds it to a table of names, in which each of its function names has to stand: the number of a function is then that of its name in
     /// the table. It takes no memory, and nothing else changes.
     pub fn bind(&mut self, names: &Names)
-        requires { KnowsFuncs names.now self.old }
+        requires { HasNames names.now (func_names self.old.funcs) }
         ensures bound { self.new ≡ bound names.now self.old }
         ensures numbers { IsBound names.now self.new }
         ensures kept { SameButNumbers self.old self.new }
@@ -62,11 +63,10 @@ fn words_of(alloc: Global, funcs: &[Function]) -> Result<Vec<Word>, OutOfMemory>
 }
 
 /// What it means to bind a program to a table of names: nothing but numbers changes, they are those of the table where it has all names, and
-/// the last table counts. The table of a program's own names has all of them, and so has a table that is merged from one that has.
+/// the last table counts. The table of a program's own names has all of them.
 pub fn bind_law()
     ensures kept { KeptLaw }
     ensures numbers { NumbersLaw }
     ensures last { LastLaw }
     ensures own { OwnNamesLaw }
-    ensures merged { MergedLaw }
 {}

@@ -14,10 +14,10 @@ use crate::fault::in_line;
 use crate::mnemonic::Naming;
 use crate::program::{Function, Program};
 use crate::reader::Reader;
-use crate::statement::unless;
 use crate::symbols::Symbols;
 use crate::{AsmError, AsmKind, Op, Start};
 use dim_base::{Lid, Word};
+use dim_text::unless;
 use std::alloc::Global;
 
 /// The names of the locks and of the functions.

@@ -12,12 +12,12 @@ use crate::draft::{Draft, DraftFunction, DraftStart};
 use crate::fault::in_line;
 use crate::mnemonic::mnemonic_of;
 use crate::statement::{
-    Statement, argument_word, close_line, draft_of, no_word, one_word, two_words, unless,
+    Statement, argument_word, close_line, draft_of, no_word,
 };
 use crate::symbols::Symbols;
 use crate::{AsmError, AsmKind};
 use dim_base::OutOfMemory;
-use dim_text::{Parts, name, number, signed};
+use dim_text::{Parts, name, number, one_word, signed, two_words, unless};
 use std::alloc::Global;
 
 const MOST_LOCKS: usize = 256;
@@ -94,7 +94,7 @@ impl<'a> Reader<'a> {
     fn lock(&self, words: &mut Parts<'a>) -> Result<Statement<'a>, AsmKind>
         ensures { Gives Some seen_statement result (lock_line (read self.now) words.old) }
     {
-        let word = one_word(words)?;
+        let word = one_word(words, AsmKind::Shape)?;
         unless(self.locks.len() == MOST_LOCKS, AsmKind::Limit)?;
         let name = name(word).ok_or(AsmKind::Name)?;
         unless(self.locks.has(name), AsmKind::Double)?;
@@ -107,7 +107,7 @@ impl<'a> Reader<'a> {
         requires { IsCounted self.now }
         ensures { Gives Some seen_statement result (func_line (read self.now) words.old) }
     {
-        let (first, second) = two_words(words)?;
+        let (first, second) = two_words(words, AsmKind::Shape)?;
         unless(self.funcs.len() == MOST_FUNCS, AsmKind::Limit)?;
         let name = name(first).ok_or(AsmKind::Name)?;
         let locals = number(second, 16).ok_or(AsmKind::Number)?;
@@ -120,7 +120,7 @@ impl<'a> Reader<'a> {
     fn thread(&self, words: &mut Parts<'a>) -> Result<Statement<'a>, AsmKind>
         ensures { Gives Some seen_statement result (thread_line (read self.now) words.old) }
     {
-        let (first, second) = two_words(words)?;
+        let (first, second) = two_words(words, AsmKind::Shape)?;
         unless(self.threads.len() == MOST_THREADS, AsmKind::Limit)?;
         let func = name(first).ok_or(AsmKind::Name)?;
         let argument = signed(second).ok_or(AsmKind::Number)?;

@@ -1,13 +1,13 @@
 //! The lines of a program, word by word.
 ghost use Rattle.std.specs.Prelude.{◌≡◌, Some, None};
 ghost use Rattle.dim_text.specs.Reading.{Gives};
-ghost use Rattle.dim_asm.specs.Judging.{no_word, one_word, two_words, unless, argument_word, draft_of, close_line};
+ghost use Rattle.dim_asm.specs.Judging.{no_word, argument_word, draft_of, close_line};
 ghost use Rattle.dim_asm.specs.Seen.{seen_draft, seen_statement};
 
 use crate::draft::Draft;
 use crate::mnemonic::Mnemonic;
 use crate::{AsmKind, Op};
-use dim_text::{Parts, name, number, signed};
+use dim_text::{Parts, name, number, one_word, signed};
 
 /// A line that may stand in a text.
 #[derive(Clone, Copy, Debug)]
@@ -21,13 +21,6 @@ pub enum Statement<'a> {
     Close,
 }
 
-/// Fails with this kind where a test has found a fault.
-pub fn unless(fault: bool, kind: AsmKind) -> Result<(), AsmKind>
-    ensures { result ≡ unless fault kind }
-{
-    if fault { Err(kind) } else { Ok(()) }
-}
-
 /// No more words.
 pub fn no_word(words: &mut Parts) -> Result<(), AsmKind>
     ensures { result ≡ no_word words.old }
@@ -35,26 +28,6 @@ pub fn no_word(words: &mut Parts) -> Result<(), AsmKind>
     match words.next_part() {
         None => Ok(()),
         Some(_) => Err(AsmKind::Shape),
-    }
-}
-
-/// The one word that is left.
-pub fn one_word<'a>(words: &mut Parts<'a>) -> Result<&'a [u8], AsmKind>
-    ensures { Gives Some (λ word. word.now) result (one_word words.old) }
-{
-    match words.next_part() {
-        Some(word) if !word.is_empty() && words.is_done() => Ok(word),
-        _ => Err(AsmKind::Shape),
-    }
-}
-
-/// The two words that are left.
-pub fn two_words<'a>(words: &mut Parts<'a>) -> Result<(&'a [u8], &'a [u8]), AsmKind>
-    ensures { Gives Some (λ pair. (pair.0.now, pair.1.now)) result (two_words words.old) }
-{
-    match words.next_part() {
-        Some(first) if !first.is_empty() => Ok((first, one_word(words)?)),
-        _ => Err(AsmKind::Shape),
     }
 }
 
@@ -67,7 +40,7 @@ pub fn argument_word<'a>(mnemonic: Mnemonic, words: &mut Parts<'a>) -> Result<&'
             no_word(words)?;
             Ok(b"")
         }
-        _ => one_word(words),
+        _ => one_word(words, AsmKind::Shape),
     }
 }
 

@@ -1,10 +1,11 @@
 //! Small programs, and each kind of fault.
 ghost use Rattle.std.specs.Prelude.{IfOk};
-ghost use Rattle.dim_asm.specs.Bound.{KnowsFuncs};
+ghost use Rattle.dim_stack.specs.Names.{HasNames};
+ghost use Rattle.dim_asm.specs.Code.{func_names};
 
 use super::*;
 use dim_base::{Lid, OutOfMemory, Tid};
-use dim_stack::Names;
+use dim_stack::{Names, merged_law};
 use std::alloc::{AllocError, Global};
 use std::fmt::Write;
 use std::test::Fail;
@@ -177,9 +178,9 @@ fn functions_are_numbered_by_their_names(rt: HostRuntime) -> Result<(), Fail> {
 
 // The table of the names of two programs.
 pub fn both_names(alloc: Global, p: &Program, q: &Program) -> Result<Names, OutOfMemory>
-    ensures { IfOk result (λ names. KnowsFuncs names p.now) }
+    ensures { IfOk result (λ names. HasNames names (func_names p.now.funcs)) }
 {
-    bind_law();
+    merged_law();
     Names::merge(alloc, &p.names(alloc)?, &q.names(alloc)?)
 }
 

@@ -4,13 +4,14 @@ use Rattle.std.specs.Prelude.{MatchOption, unwrap_or}
 use Rattle.std.specs.Borrow.{Bor}
 use Rattle.dim_text.specs.Reading.{◌>>=◌, in_line, read_from, Fails, Gives}
 use Rattle.dim_text.proofs.ReadingLemmas.{read_from-last, read_from-none, read_from-step, Fails-bind}
+use Rattle.dim_text.specs.Stops.{kind_of}
 use Rattle.dim_history_file.specs.declared.fault.FileKind.{FileKind}
 use Rattle.dim_history_file.specs.declared.fault.FileFault.{FileFault}
 use Rattle.dim_history_file.specs.declared.fault.ReadFault.{ReadFault}
 use Rattle.dim_history_file.specs.declared.fault.ReadFault.TheVariants as error
-use Rattle.dim_history_file.specs.declared.fault.Stop.{Stop}
-use Rattle.dim_history_file.specs.declared.fault.Stop.TheVariants as stop
-use Rattle.dim_history_file.specs.Faults.{fault, fault_of, kind_of, at_line}
+use Rattle.dim_text.specs.declared.stop.Stop.{Stop}
+use Rattle.dim_text.specs.declared.stop.Stop.TheVariants as stop
+use Rattle.dim_history_file.specs.Faults.{fault, fault_of, at_line}
 use Rattle.dim_history_file.specs.Value.{NamedSig}
 use Rattle.dim_history_file.specs.Judging.{State, step, at_end}
 
@@ -49,12 +50,12 @@ going_on s t n line lines parts all is more same taken =
     ∙ same
 
 -- what the end of a text was judged to be
-pub judged_end : (n : ℕ) (a : List NamedSig) (r : Result (Unit {0}) Stop) (right : Result (List NamedSig) FileKind) (e : ReadFault) → Gives kind_of (λ _. a) r right → at_line n r ≡ Err e → Fails (fault_of e) (in_line fault n right)
+pub judged_end : (n : ℕ) (a : List NamedSig) (r : Result (Unit {0}) (Stop FileKind)) (right : Result (List NamedSig) FileKind) (e : ReadFault) → Gives kind_of (λ _. a) r right → at_line n r ≡ Err e → Fails (fault_of e) (in_line fault n right)
 judged_end n a (Ok u) right e h k = cc (k)
 judged_end n a (Err stop.OutOfMemory) right e h k = let same : error.OutOfMemory ≡ e = cc (k) in subst (λ x. Fails (fault_of x) (in_line fault n right)) same tt
 judged_end n a (Err (stop.Bad kind)) right e h k = let same : error.Bad (fault n kind) ≡ e = cc (k) in subst (λ x. Fails (fault_of x) (in_line fault n right)) same (ap (in_line fault n) h)
 
-pub good_end : (n : ℕ) (a : List NamedSig) (r : Result (Unit {0}) Stop) (u : Unit {0}) (right : Result (List NamedSig) FileKind) → Gives kind_of (λ _. a) r right → at_line n r ≡ Ok u → right ≡ Ok a
+pub good_end : (n : ℕ) (a : List NamedSig) (r : Result (Unit {0}) (Stop FileKind)) (u : Unit {0}) (right : Result (List NamedSig) FileKind) → Gives kind_of (λ _. a) r right → at_line n r ≡ Ok u → right ≡ Ok a
 good_end n a (Ok v) u right h k = h
 good_end n a (Err stop.OutOfMemory) u right h k = cc (k)
 good_end n a (Err (stop.Bad kind)) u right h k = cc (k)

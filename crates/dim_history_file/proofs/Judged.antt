@@ -8,48 +8,25 @@ use Rattle.std.proofs.lemmas.Bool.{eqb-true, eqb-false, leb-true, ltb-false, not
 use Rattle.std.proofs.lemmas.List.{length-map}
 use Rattle.std.proofs.lemmas.Slice.Eq.{bytes_eq-Decides}
 use Rattle.dim_text.specs.Cuts.{sides_of, frame_word}
-use Rattle.dim_text.specs.Numerals.{number_of}
+use Rattle.dim_text.specs.Numerals.{number_of, number_from}
 use Rattle.dim_text.specs.Naming.{name_of, is_name, IsName}
 use Rattle.dim_text.specs.Reading.{◌>>=◌, or_else}
+use Rattle.dim_text.specs.Words.{unless, one_word, two_words, has_sides}
 use Rattle.dim_text.proofs.Cutting.{frame_word-sides_of}
 use Rattle.dim_text.proofs.Digits.{number_of-Some}
 use Rattle.dim_text.proofs.ReadingLemmas.{bind_ok, or_else_ok}
+use Rattle.dim_text.proofs.WordLemmas.{chosen, unless_ok, one_word_ok, two_words_ok, number_from_ok}
 use Rattle.dim_history_file.specs.declared.fault.FileKind.{FileKind}
 use Rattle.dim_history_file.specs.declared.fault.FileKind.TheVariants.{Line, Name, Number, Count, Limit}
 use Rattle.dim_history_file.specs.Value.{NamedFrame, NamedSig}
-use Rattle.dim_history_file.specs.Judging.{unless, filled, one_word, two_words, at_least, number_from, has_sides, frame_of, frames_of, stack_of, State, Within, Closed, signature_line, end_line}
+use Rattle.dim_history_file.specs.Judging.{frame_of, frames_of, stack_of, State, Within, Closed, signature_line, end_line}
 use Rattle.dim_history_file.specs.Spelling.{spelled_frame}
 use Rattle.dim_history_file.specs.Grammar.{IsFrame, IsStack}
-
-pub chosen : {X : Type 0} (b : Bool) (x y z : X) → cond b x y ≡ z → ((b ≡ true) × (x ≡ z)) ⊎ ((b ≡ false) × (y ≡ z))
-chosen true x y z e = inl (refl, e)
-chosen false x y z e = inr (refl, e)
-
-pub unless_ok : (b : Bool) (k : FileKind) (u : Unit {0}) → unless b k ≡ Ok u → b ≡ false
-unless_ok true k u e = cc
-unless_ok false k u e = refl
 
 pub same_bytes : (a b : List ℕ) → bytes_eq a b ≡ true → a ≡ b
 same_bytes a b e = (bytes_eq-Decides a b).0 e
 
 -- ---- words
-filled_ok : (word w : List ℕ) → filled word ≡ Ok w → word ≡ w
-filled_ok [] w e = cc
-filled_ok (c ∷ cs) w e = cc
-
-one_word_ok : (words : List (List ℕ)) (w : List ℕ) → one_word words ≡ Ok w → words ≡ w ∷ []
-one_word_ok [] w e = cc
-one_word_ok (word ∷ []) w e = ap (λ x. x ∷ []) (filled_ok word w e)
-one_word_ok (word ∷ next ∷ words) w e = cc
-
-two_words_ok : (words : List (List ℕ)) (p : List ℕ × List ℕ) → two_words words ≡ Ok p → words ≡ p.0 ∷ p.1 ∷ []
-two_words_ok [] p e = cc
-two_words_ok (first ∷ words) p e =
-    let a = bind_ok (filled first) (λ x. one_word words >>= λ y. let pair : List ℕ × List ℕ = (x, y) in Ok pair) p e in
-    let b = bind_ok (one_word words) (λ y. let pair : List ℕ × List ℕ = (a.0, y) in Ok pair) p a.2 in
-    let pair : ◌≡◌ {A = List ℕ × List ℕ} (a.0, b.0) p = cc (b.2) in
-    ap (λ x. x ∷ words) (filled_ok first a.0 a.1) ∙ ap (λ ws. a.0 ∷ ws) (one_word_ok words b.0 b.1) ∙ ap (λ q. q.0 ∷ q.1 ∷ []) pair
-
 pub name_ok : (word name : List ℕ) → name_of word ≡ Some name → (word ≡ name) × IsName name
 unfolding name_of
 name_ok word name e =
@@ -57,23 +34,6 @@ name_ok word name e =
       | inl is ↦ let same : word ≡ name = cc (is.1) in (same, subst IsName same is.0)
       | inr other ↦ cc (other.1)
     ]
-
-at_least_ok : (low m n : ℕ) → at_least low m ≡ Some n → (low ≤ m) × (m ≡ n)
-at_least_ok low m n e =
-    elim (chosen (nat_le low m) _ _ _ e) [
-      | inl is ↦ (leb-true low m is.0, cc (is.1))
-      | inr other ↦ cc (other.1)
-    ]
-
-from_ok : (low n : ℕ) (o : Option ℕ) → option_and_then (at_least low) o ≡ Some n → (low ≤ n) × (o ≡ Some n)
-from_ok low n None e = cc
-from_ok low n (Some m) e = let h = at_least_ok low m n e in (omega (arith, h.0, h.1), ap Some h.1)
-
-pub number_from_ok : (low high n : ℕ) (word : List ℕ) → high < 2 ^ 64 → number_from low high word ≡ Some n → (low ≤ n) × (n ≤ high) × (word ≡ decimal n)
-number_from_ok low high n word small e =
-    let h = from_ok low n (number_of high word) e in
-    let found = number_of-Some high n word small h.1 in
-    (h.0, found.0, found.1)
 
 -- ---- frames and stacks
 abbrev frame_with : List ℕ → ℕ → Result NamedFrame FileKind
@@ -136,7 +96,7 @@ opened sigs depth count = Ok (record { stage = Within (record { depth = depth; c
 pub signature_ok : (sigs : List NamedSig) (words : List (List ℕ)) (t : State) → signature_line sigs words ≡ Ok t → Opens sigs words t
 unfolding signature_line
 signature_ok sigs words t e =
-    let a = bind_ok (two_words words) (λ pair. unless (length sigs == 4096) Limit >>= λ _. or_else (number_from 1 32 pair.0) Number >>= λ depth. or_else (number_from 2 32 pair.1) Number >>= λ count. opened sigs depth count) t e in
+    let a = bind_ok (two_words words Line) (λ pair. unless (length sigs == 4096) Limit >>= λ _. or_else (number_from 1 32 pair.0) Number >>= λ depth. or_else (number_from 2 32 pair.1) Number >>= λ count. opened sigs depth count) t e in
     let b = bind_ok (unless (length sigs == 4096) Limit) (λ _. or_else (number_from 1 32 a.0.0) Number >>= λ depth. or_else (number_from 2 32 a.0.1) Number >>= λ count. opened sigs depth count) t a.2 in
     let c = bind_ok (or_else (number_from 1 32 a.0.0) Number) (λ depth. or_else (number_from 2 32 a.0.1) Number >>= λ count. opened sigs depth count) t b.2 in
     let d = bind_ok (or_else (number_from 2 32 a.0.1) Number) (λ count. opened sigs c.0 count) t c.2 in
@@ -146,7 +106,7 @@ signature_ok sigs words t e =
       depth = c.0;
       count = d.0;
       after = cc (d.2);
-      text = two_words_ok words a.0 a.1 ∙ ap (λ x. x ∷ a.0.1 ∷ []) depth.2 ∙ ap (λ x. decimal c.0 ∷ x ∷ []) count.2;
+      text = two_words_ok words a.0 Line a.1 ∙ ap (λ x. x ∷ a.0.1 ∷ []) depth.2 ∙ ap (λ x. decimal c.0 ∷ x ∷ []) count.2;
       low = depth.0;
       high = depth.1;
       some = count.0;
@@ -160,9 +120,9 @@ ended sigs = Ok (record { stage = Closed; sigs = sigs })
 pub end_ok : (sigs : List NamedSig) (words : List (List ℕ)) (t : State) → end_line sigs words ≡ Ok t → (t ≡ record { stage = Closed; sigs = sigs }) × (words ≡ decimal (length sigs) ∷ [])
 unfolding end_line
 end_ok sigs words t e =
-    let a = bind_ok (one_word words) (λ word. or_else (number_of 4096 word) Number >>= λ n. unless (not (n == length sigs)) Count >>= λ _. ended sigs) t e in
+    let a = bind_ok (one_word words Line) (λ word. or_else (number_of 4096 word) Number >>= λ n. unless (not (n == length sigs)) Count >>= λ _. ended sigs) t e in
     let b = bind_ok (or_else (number_of 4096 a.0) Number) (λ n. unless (not (n == length sigs)) Count >>= λ _. ended sigs) t a.2 in
     let c = bind_ok (unless (not (b.0 == length sigs)) Count) (λ _. ended sigs) t b.2 in
     let number = number_of-Some 4096 b.0 a.0 (omega arith) (or_else_ok (number_of 4096 a.0) Number b.0 b.1) in
     let count = eqb-true b.0 (length sigs) (not-false (b.0 == length sigs) (unless_ok (not (b.0 == length sigs)) Count c.0 c.1)) in
-    (cc (c.2), one_word_ok words a.0 a.1 ∙ ap (λ x. x ∷ []) (number.1 ∙ ap decimal count))
+    (cc (c.2), one_word_ok words a.0 Line a.1 ∙ ap (λ x. x ∷ []) (number.1 ∙ ap decimal count))

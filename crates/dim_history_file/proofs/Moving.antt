@@ -12,15 +12,17 @@ use Rattle.dim_text.specs.Cuts.{words_of, line_of, ended}
 use Rattle.dim_text.specs.Reading.{◌>>=◌}
 use Rattle.dim_text.proofs.Cutting.{line_of-words_of}
 use Rattle.dim_text.proofs.ReadingLemmas.{bind_ok, Spells, read_from-spelled}
+use Rattle.dim_text.specs.Words.{unless}
+use Rattle.dim_text.proofs.WordLemmas.{chosen, unless_ok}
 use Rattle.dim_history_file.specs.declared.fault.FileKind.{FileKind}
 use Rattle.dim_history_file.specs.declared.fault.FileKind.TheVariants.{Unsorted}
 use Rattle.dim_history_file.specs.Faults.{fault}
 use Rattle.dim_history_file.specs.Value.{NamedFrame, NamedSig, have_stacks}
-use Rattle.dim_history_file.specs.Judging.{Begun, Stage, Head, Due, Within, Closed, State, head, unless, head_line, due_line, stack_of, is_less_than_last, with_signature, with_stack, stack_line, step, at_end, closed, start, history_of}
+use Rattle.dim_history_file.specs.Judging.{Begun, Stage, Head, Due, Within, Closed, State, head, head_line, due_line, stack_of, is_less_than_last, with_signature, with_stack, stack_line, step, at_end, closed, start, history_of}
 use Rattle.dim_history_file.specs.Spelling.{Line, HeadLine, SignatureLine, StackLine, EndLine, spelled, open_lines, sig_lines, lines_before_end, history_lines, lines_at, lines_so_far, text_of, history_text}
 use Rattle.dim_history_file.specs.Grammar.{IsStack, AreInOrder, IsSignature, IsHistory, IsBegun, IsAt, Fits}
 use Rattle.dim_history_file.proofs.Comparing.{distinct-push}
-use Rattle.dim_history_file.proofs.Judged.{chosen, unless_ok, same_bytes, stack_ok, signature_ok, end_ok}
+use Rattle.dim_history_file.proofs.Judged.{same_bytes, stack_ok, signature_ok, end_ok}
 
 -- a line that is taken: what it says, and the state behind it
 pub record Moves (s t : State) (line : List ℕ) : Type 0 where

@@ -22,11 +22,11 @@ stacks_again own names up [] all = refl
 stacks_again own names up (s ∷ ss) all =
     ap₂ (λ x xs. x ∷ xs) (stack_again own names up s (All-head (IsNamedBy names) s ss all)) (stacks_again own names up ss (All-tail (IsNamedBy names) s ss all))
 
-abbrev HasNames : List (List ℕ) → Sig → Type 0
-HasNames names s = All (IsNamedBy names) s.stacks
+abbrev IsNamed : List (List ℕ) → Sig → Type 0
+IsNamed names s = All (IsNamedBy names) s.stacks
 
 pub sigs_again : OwnLaw → (names : List (List ℕ)) → AreAscending names → (sigs : List Sig) → AreNamed names sigs → numbered names (named names sigs) ≡ sigs
 sigs_again own names up [] all = refl
 sigs_again own names up (s ∷ ss) all =
-    ap₂ (λ x xs. x ∷ xs) (ap (λ stacks. record { depth = s.depth; stacks = stacks }) (stacks_again own names up s.stacks (All-head (HasNames names) s ss all)))
-    (sigs_again own names up ss (All-tail (HasNames names) s ss all))
+    ap₂ (λ x xs. x ∷ xs) (ap (λ stacks. record { depth = s.depth; stacks = stacks }) (stacks_again own names up s.stacks (All-head (IsNamed names) s ss all)))
+    (sigs_again own names up ss (All-tail (IsNamed names) s ss all))

@@ -16,10 +16,14 @@ use Rattle.dim_text.proofs.Cutting.{words_of-line_of, sides_of-frame_word}
 use Rattle.dim_text.proofs.Digits.{number_of-decimal, HasNo-decimal}
 use Rattle.dim_text.proofs.NameLemmas.{HasNo-name}
 use Rattle.dim_text.proofs.ReadingLemmas.{read_from-line}
+use Rattle.dim_text.specs.Words.{filled, has_sides}
+use Rattle.dim_text.specs.Numerals.{number_from}
+use Rattle.dim_history_file.specs.declared.fault.FileKind.{FileKind}
+use Rattle.dim_history_file.specs.declared.fault.FileKind.TheVariants as kind
 use Rattle.dim_history_file.specs.declared.fault.FileFault.{FileFault}
 use Rattle.dim_history_file.specs.Faults.{fault}
 use Rattle.dim_history_file.specs.Value.{NamedFrame, NamedSig, have_stacks}
-use Rattle.dim_history_file.specs.Judging.{Begun, Due, Within, Closed, State, filled, number_from, has_sides, frame_of, frames_of, stack_of, head_line, signature_line, end_line, due_line, is_less_than_last, with_stack, stack_line, step, at_end, start, history_of}
+use Rattle.dim_history_file.specs.Judging.{Begun, Due, Within, Closed, State, frame_of, frames_of, stack_of, head_line, signature_line, end_line, due_line, is_less_than_last, with_stack, stack_line, step, at_end, start, history_of}
 use Rattle.dim_history_file.specs.Spelling.{Line, HeadLine, SignatureLine, StackLine, EndLine, spelled_frame, spelled, sig_lines, text_of, history_text}
 use Rattle.dim_history_file.specs.Grammar.{IsFrame, IsStack, AreInOrder, IsSignature, AreDistinct, IsHistory}
 use Rattle.dim_history_file.proofs.Comparing.{distinct-front}
@@ -99,10 +103,10 @@ pub signature_has_no : (depth count : ℕ) → depth ≤ 32 → count ≤ 32 →
 signature_has_no depth count d e c h word =
     (word_has_no c (codes "signature") word, (number_has_no c depth h (omega (arith, d)), (number_has_no c count h (omega (arith, e)), tt)))
 
-filled_number : (n : ℕ) → n < 2 ^ 64 → filled (decimal n) ≡ Ok (decimal n)
+filled_number : (n : ℕ) → n < 2 ^ 64 → ◌≡◌ {A = Result (List ℕ) FileKind} (filled (decimal n) kind.Line) (Ok (decimal n))
 filled_number n small = go (decimal n) (decimal_nonempty n small)
   where
-    go : (word : List ℕ) → 0 < length word → filled word ≡ Ok word
+    go : (word : List ℕ) → 0 < length word → ◌≡◌ {A = Result (List ℕ) FileKind} (filled word kind.Line) (Ok word)
     go [] h = absurd (omega arith)
     go (c ∷ cs) h = refl
 

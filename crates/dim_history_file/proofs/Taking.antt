@@ -8,6 +8,8 @@ use Rattle.std.proofs.lemmas.List.{length-map, map_push}
 use Rattle.std.proofs.lemmas.List.Elements.{All-push}
 use Rattle.std.proofs.lemmas.Option.{slice_get-map, slice_get_within, get_or_from_slice_get}
 use Rattle.dim_text.specs.Reading.{in_line, Fails, Leaves}
+use Rattle.dim_text.specs.Stops.{kind_of}
+use Rattle.dim_text.proofs.WordLemmas.{chosen}
 use Rattle.dim_stack.specs.declared.Frame.{Frame}
 use Rattle.dim_stack.specs.Names.{AreAscending, IsNamedBy}
 use Rattle.dim_signature.specs.Sig.{Sig}
@@ -15,9 +17,9 @@ use Rattle.dim_signature.specs.Sorted.{AreSorted, stack_cmp}
 use Rattle.dim_signature.specs.Catalogue.{has_stacks}
 use Rattle.dim_history_file.specs.declared.fault.FileKind.{FileKind}
 use Rattle.dim_history_file.specs.declared.fault.FileKind.TheVariants.{Double}
-use Rattle.dim_history_file.specs.declared.fault.Stop.{Stop}
-use Rattle.dim_history_file.specs.declared.fault.Stop.TheVariants as stop
-use Rattle.dim_history_file.specs.Faults.{fault, fault_of, kind_of, at_line}
+use Rattle.dim_text.specs.declared.stop.Stop.{Stop}
+use Rattle.dim_text.specs.declared.stop.Stop.TheVariants as stop
+use Rattle.dim_history_file.specs.Faults.{fault, fault_of, at_line}
 use Rattle.dim_history_file.specs.Value.{NamedFrame, NamedSig, named_stack, named_sig, named, AreNamed, stack_order, have_stacks}
 use Rattle.dim_history_file.specs.Judging.{Begun, Due, Within, State, stack_of, is_less_than_last, with_signature, with_stack, stack_line}
 use Rattle.dim_history_file.specs.Signing.{entered}
@@ -25,7 +27,6 @@ use Rattle.dim_history_file.specs.Reader.{begun}
 use Rattle.dim_history_file.specs.Grammar.{AreInOrder}
 use Rattle.dim_history_file.proofs.Comparing.{order_named, have_named, sorted_named}
 use Rattle.dim_history_file.proofs.Moving.{in_order-push}
-use Rattle.dim_history_file.proofs.Judged.{chosen}
 
 -- ---- the last stack
 less_is : (s : List NamedFrame) (xs : List (List NamedFrame)) (x : List NamedFrame) → slice_get xs (length xs - 1) ≡ Some x → is_less_than_last s xs ≡ is_lt (stack_order s x)
@@ -83,11 +84,11 @@ module _ (names : List (List ℕ)) (up : AreAscending names) (sigs : List Sig) (
       ]
 
   -- what entering it leaves
-  pub entered_leaves : (new : List Sig) (r : Result (Unit {0}) Stop) → Leaves kind_of new r (entered sigs s) → Leaves kind_of (let t : State = record { stage = Due; sigs = named names new } in t) r (with_signature (named names sigs) whole)
+  pub entered_leaves : (new : List Sig) (r : Result (Unit {0}) (Stop FileKind)) → Leaves kind_of new r (entered sigs s) → Leaves kind_of (let t : State = record { stage = Due; sigs = named names new } in t) r (with_signature (named names sigs) whole)
   entered_leaves new (Ok u) h = entered_ok new h
   entered_leaves new (Err e) h = entered_fails (kind_of e) h
 
-  pub entered_keeps : (new : List Sig) (r : Result (Unit {0}) Stop) → Leaves kind_of new r (entered sigs s) → OnOk r (AreNamed names new)
+  pub entered_keeps : (new : List Sig) (r : Result (Unit {0}) (Stop FileKind)) → Leaves kind_of new r (entered sigs s) → OnOk r (AreNamed names new)
   entered_keeps new (Ok u) h = entered_named new h
   entered_keeps new (Err e) h = tt
 
@@ -132,7 +133,7 @@ module _ (names : List (List ℕ)) (sigs : List NamedSig) (depth count : ℕ) (o
       sorted_named names up new (subst (All (IsNamedBy names)) (sym more) (All-push (IsNamedBy names) old stack named one)) (subst AreInOrder (sym items) (in_order-push (map f old) (f stack) sorted after))
 
 -- ---- the line of an error
-pub leaves_line : (n : ℕ) (s : State) (r : Result (Unit {0}) Stop) (right : Result State FileKind) → Leaves kind_of s r right → Leaves fault_of s (at_line n r) (in_line fault n right)
+pub leaves_line : (n : ℕ) (s : State) (r : Result (Unit {0}) (Stop FileKind)) (right : Result State FileKind) → Leaves kind_of s r right → Leaves fault_of s (at_line n r) (in_line fault n right)
 leaves_line n s (Ok u) right h = ap (in_line fault n) h
 leaves_line n s (Err stop.OutOfMemory) right h = tt
 leaves_line n s (Err (stop.Bad k)) right h = ap (in_line fault n) h

@@ -11,6 +11,7 @@ use Rattle.std.proofs.lemmas.Cmp.{nat_list_eq_equiv}
 use Rattle.std.proofs.lemmas.Map.Keys.{any_passes_from_place}
 use Rattle.std.proofs.lemmas.Map.Views.{All-from_any}
 use Rattle.std.proofs.lemmas.Option.{get_or_from_slice_get, slice_get_within}
+use Rattle.std.proofs.lemmas.List.Elements.{Contains-append_left, Contains-append_right}
 use Rattle.std.proofs.lemmas.List.Concat.{flat_map-append}
 use Rattle.std.proofs.lemmas.List.Folds.{list_any_none}
 use Rattle.std.proofs.lemmas.List.Splits.{slice_split_none}
@@ -21,36 +22,31 @@ use Rattle.dim_text.specs.Numerals.{number_of as number_in}
 use Rattle.dim_text.proofs.Cutting.{lines_of-ended, words_of-line_of, sides_of-frame_word}
 use Rattle.dim_text.proofs.Digits.{HasNo-decimal}
 use Rattle.dim_text.proofs.NameLemmas.{HasNo-name}
-use Rattle.dim_stack.specs.Names.{HasNamesOf, table_of, number_of, name_of}
+use Rattle.dim_text.proofs.WordLemmas.{chosen}
+use Rattle.dim_stack.specs.Names.{HasNamesOf, table_of, number_of, name_of, HasNames}
 use Rattle.dim_stack.specs.declared.Frame.{Frame}
-use Rattle.dim_stack.proofs.TableLemmas.{has-table_of, has-append, table-same}
+use Rattle.dim_stack.proofs.TableLemmas.{has-table_of, has-append, has_contains, contains_has, has_own, table-same}
 use Rattle.dim_stack.proofs.NumberLemmas.{missing, found}
 use Rattle.dim_history_file.specs.Judging.{frame_of}
 use Rattle.dim_history_file.specs.Value.{NamedFrame, NamedSig, named_frame, names_of_stack, names_used}
-use Rattle.dim_history_file.specs.Naming.{name_in, names_in_word, names_in_words, names_in_line, names_in_lines, names_in, Covers}
+use Rattle.dim_history_file.specs.Naming.{name_in, names_in_word, names_in_words, names_in_line, names_in_lines, names_in}
 use Rattle.dim_history_file.specs.Spelling.{Line, SignatureLine, StackLine, EndLine, spelled_frame, spelled, sig_lines, history_lines, text_of, history_text}
 use Rattle.dim_history_file.specs.Grammar.{IsFrame, IsStack, IsSignature, IsHistory}
-use Rattle.dim_history_file.proofs.Judged.{chosen, name_ok}
+use Rattle.dim_history_file.proofs.Judged.{name_ok}
 use Rattle.dim_history_file.proofs.Spelled.{line_has_no, head_has_no, signature_has_no, end_has_no, stack_has_no, words_of_stack}
 
--- ---- covering
+-- ---- tables that have names
 abbrev has : List ℕ → List (List ℕ) → Bool
 has q xs = list_any (bytes_eq q) xs
 
-pub covers_left : (table a b : List (List ℕ)) → Covers table (a ++ b) → Covers table a
-covers_left table a b h q e = h q (has-append q a b ∙ or_left (has q a) (has q b) e)
+pub has_left : (table a b : List (List ℕ)) → HasNames table (a ++ b) → HasNames table a
+has_left table a b h q there = h q (Contains-append_left a b q there)
 
-pub covers_right : (table a b : List (List ℕ)) → Covers table (a ++ b) → Covers table b
-covers_right table a b h q e = h q (has-append q a b ∙ or_right (has q a) (has q b) e)
+pub has_right : (table a b : List (List ℕ)) → HasNames table (a ++ b) → HasNames table b
+has_right table a b h q there = h q (Contains-append_right a b q there)
 
-pub covers_table : (names : List (List ℕ)) → Covers (table_of names) names
-covers_table names q e = has-table_of q names ∙ e
-
-pub covers_first : (a b : List (List ℕ)) → Covers (table_of (a ++ b)) a
-covers_first a b = covers_left (table_of (a ++ b)) a b (covers_table (a ++ b))
-
-pub covers_second : (a b : List (List ℕ)) → Covers (table_of (a ++ b)) b
-covers_second a b = covers_right (table_of (a ++ b)) a b (covers_table (a ++ b))
+pub has_all : (names : List (List ℕ)) → HasNames (table_of names) names
+has_all = has_own
 
 -- a name that stands in the table has a number
 pub numbered : (table : List (List ℕ)) (name : List ℕ) → has name table ≡ true → number_of table name ≡ None → ⊥
@@ -220,12 +216,12 @@ pub name_there : (word function offset : List ℕ) → sides_of word ≡ Some (f
 name_there word function offset e is =
     ap (λ sides. has function (name_in sides)) e ∙ ap (λ ns. has function ns) (cond-true (is_name function) (function ∷ []) [] is) ∙ has_itself function []
 
-pub name_found : (table : List (List ℕ)) (word function offset name bytes : List ℕ) (r : Option ℕ) → Covers table (names_in_word word) → sides_of word ≡ Some (function, offset) → name_of_word function ≡ Some name → bytes ≡ name
+pub name_found : (table : List (List ℕ)) (word function offset name bytes : List ℕ) (r : Option ℕ) → HasNames table (names_in_word word) → sides_of word ≡ Some (function, offset) → name_of_word function ≡ Some name → bytes ≡ name
     → r ≡ number_of table bytes → IsSome r
-name_found table word function offset name bytes r covers e f is at =
+name_found table word function offset name bytes r known e f is at =
     let h = name_ok function name f in
     let there = name_there word function offset e (subst IsName (sym h.0) h.1) in
-    some_number table bytes r at (covers bytes (subst (λ x. has x (names_in_word word) ≡ true) (h.0 ∙ sym is) there))
+    some_number table bytes r at (contains_has bytes table (known bytes (has_contains bytes (names_in_word word) (subst (λ x. has x (names_in_word word) ≡ true) (h.0 ∙ sym is) there))))
 
 pub frame_value : (table : List (List ℕ)) (word function offset name bytes : List ℕ) (at n : ℕ) → sides_of word ≡ Some (function, offset) → name_of_word function ≡ Some name → number_in 65535 offset ≡ Some at → bytes ≡ name
     → number_of table bytes ≡ Some n → frame_of word ≡ Ok (named_frame table (record { func = n; at = at }))

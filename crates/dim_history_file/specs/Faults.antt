@@ -5,8 +5,8 @@ use Rattle.dim_history_file.specs.declared.fault.FileKind.TheVariants.{Head, Lin
 use Rattle.dim_history_file.specs.declared.fault.FileFault.{FileFault}
 use Rattle.dim_history_file.specs.declared.fault.ReadFault.{ReadFault}
 use Rattle.dim_history_file.specs.declared.fault.ReadFault.TheVariants.{Bad, OutOfMemory}
-use Rattle.dim_history_file.specs.declared.fault.Stop.{Stop}
-use Rattle.dim_history_file.specs.declared.fault.Stop.TheVariants as stop
+use Rattle.dim_text.specs.declared.stop.Stop.{Stop}
+use Rattle.dim_text.specs.declared.stop.Stop.TheVariants as stop
 
 abbrev pub kind_number : FileKind → ℕ
 kind_number Head = 1
@@ -28,13 +28,8 @@ abbrev pub fault_of : ReadFault → Option FileFault
 fault_of OutOfMemory = None
 fault_of (Bad fault) = Some fault
 
--- the kind of fault for which the reading of a line stopped
-abbrev pub kind_of : Stop → Option FileKind
-kind_of stop.OutOfMemory = None
-kind_of (stop.Bad kind) = Some kind
-
--- the same as an error of the line with this number
-abbrev pub at_line : {A : Type 0} → ℕ → Result A Stop → Result A ReadFault
+-- what was read, or the error of the line with this number
+abbrev pub at_line : {A : Type 0} → ℕ → Result A (Stop FileKind) → Result A ReadFault
 at_line n (Ok x) = Ok x
 at_line n (Err stop.OutOfMemory) = Err OutOfMemory
 at_line n (Err (stop.Bad kind)) = Err (Bad (fault n kind))

@@ -1,7 +1,6 @@
 -- The names that stand in a text before a colon.
-use Rattle.std.specs.Prelude.{◌≡◌, ℕ, true, List, [], ◌∷◌, Option, Some, None, if◌then◌else◌}
-use Rattle.std.specs.List.{flat_map, list_any}
-use Rattle.std.specs.Str.{bytes_eq}
+use Rattle.std.specs.Prelude.{ℕ, List, [], ◌∷◌, Option, Some, None, if◌then◌else◌}
+use Rattle.std.specs.List.{flat_map}
 use Rattle.dim_text.specs.Cuts.{lines_of, words_of, sides_of}
 use Rattle.dim_text.specs.Naming.{is_name}
 
@@ -24,7 +23,3 @@ names_in_lines lines = flat_map names_in_line lines
 
 abbrev pub names_in : List ℕ → List (List ℕ)
 names_in bytes = names_in_lines (lines_of bytes)
-
--- each of some names stands in a table
-abbrev pub Covers : List (List ℕ) → List (List ℕ) → Type 0
-Covers table names = (name : List ℕ) → list_any (bytes_eq name) names ≡ true → list_any (bytes_eq name) table ≡ true

@@ -3,7 +3,7 @@ ghost use Rattle.std.specs.Prelude.{◌≡◌};
 ghost use Rattle.dim_history_file.specs.Faults.{kind_number, at_line};
 
 use dim_base::OutOfMemory;
-use std::alloc::{AllocError, AllocFailed};
+use dim_text::Stop;
 
 /// What a line breaks.
 #[derive(Clone, Copy, Debug, PartialEq, Eq)]
@@ -73,49 +73,19 @@ impl From<OutOfMemory> for ReadFault {
     }
 }
 
-/// Why the reading of a line stopped.
-#[derive(Clone, Copy, Debug, PartialEq, Eq)]
-pub enum Stop {
-    /// The line has a fault.
-    Bad(FileKind),
-    OutOfMemory,
-}
-
-impl From<FileKind> for Stop {
+impl From<FileKind> for Stop<FileKind> {
     ghost use Rattle.std.specs.Prelude.{◌≡◌};
-    ghost use Rattle.dim_history_file.specs.declared.fault.Stop.TheVariants as stop;
+    ghost use Rattle.dim_text.specs.declared.stop.Stop.TheVariants as stop;
 
     ghost from_gives = { λ kind e. e ≡ stop.Bad kind };
 
-    fn from(kind: FileKind) -> Stop {
+    fn from(kind: FileKind) -> Stop<FileKind> {
         Stop::Bad(kind)
     }
 }
 
-impl From<OutOfMemory> for Stop {
-    ghost use Rattle.std.specs.Prelude.{◌≡◌};
-    ghost use Rattle.dim_history_file.specs.declared.fault.Stop.TheVariants as stop;
-
-    ghost from_gives = { λ _ e. e ≡ stop.OutOfMemory };
-
-    fn from(_e: OutOfMemory) -> Stop {
-        Stop::OutOfMemory
-    }
-}
-
-impl<T: Drop> From<AllocFailed<T>> for Stop {
-    ghost use Rattle.std.specs.Prelude.{◌≡◌};
-    ghost use Rattle.dim_history_file.specs.declared.fault.Stop.TheVariants as stop;
-
-    ghost from_gives = { λ _ e. e ≡ stop.OutOfMemory };
-
-    fn from(_e: AllocFailed<T>) -> Stop {
-        Stop::OutOfMemory
-    }
-}
-
-/// The same as an error of the line with this number.
-pub fn in_line<T>(line: u32, read: Result<T, Stop>) -> Result<T, ReadFault>
+/// What was read, or the error of the line with this number.
+pub fn in_line<T>(line: u32, read: Result<T, Stop<FileKind>>) -> Result<T, ReadFault>
     ensures { result ≡ at_line line read }
 {
     match read {

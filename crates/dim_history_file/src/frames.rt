@@ -3,20 +3,17 @@ ghost use Rattle.std.specs.Prelude.{◌≡◌, ◌<◌, Some, nat_lt, length, ma
 ghost use Rattle.std.specs.List.{list_all};
 ghost use Rattle.dim_text.specs.Reading.{Gives};
 ghost use Rattle.dim_text.specs.Cuts.{words_of};
-ghost use Rattle.dim_stack.specs.Names.{IsNamedBy};
-ghost use Rattle.dim_history_file.specs.Faults.{kind_of};
+ghost use Rattle.dim_text.specs.Words.{has_sides};
+ghost use Rattle.dim_stack.specs.Names.{IsNamedBy, HasNames};
+ghost use Rattle.dim_text.specs.Stops.{kind_of};
 ghost use Rattle.dim_history_file.specs.Value.{named_frame, named_stack};
-ghost use Rattle.dim_history_file.specs.Judging.{has_sides, frame_of, frames_of, stack_of};
-ghost use Rattle.dim_history_file.specs.Naming.{Covers, names_in_word, names_in_words, names_in_line};
+ghost use Rattle.dim_history_file.specs.Judging.{frame_of, frames_of, stack_of};
+ghost use Rattle.dim_history_file.specs.Naming.{names_in_word, names_in_words, names_in_line};
 
 use crate::FileKind;
-use crate::fault::Stop;
-use crate::words::unless;
-use dim_stack::{Frame, Names, Stack};
-use dim_text::{Parts, frame_sides, name, number};
+use dim_stack::{Frame, MOST_FRAMES, Names, Stack};
+use dim_text::{Parts, Stop, frame_sides, name, number, unless};
 use std::alloc::Global;
-
-const MOST_FRAMES: usize = 32;
 
 const LAST_OFFSET: u32 = 65535;
 
@@ -49,7 +46,7 @@ fn are_many(mut words: Parts) -> bool
 // The frame that a word spells, where the table has the name.
 #[tactic(auto, unfolding(crate::specs::Judging::frame_of))]
 fn frame(names: &Names, word: &[u8]) -> Result<Frame, FileKind>
-    requires { Covers names.now (names_in_word word.now) }
+    requires { HasNames names.now (names_in_word word.now) }
     ensures value { Gives Some (named_frame names.now) result (frame_of word.now) }
     ensures named { IfOk result (λ f. f.func < length names.now) }
 {
@@ -61,8 +58,8 @@ fn frame(names: &Names, word: &[u8]) -> Result<Frame, FileKind>
 }
 
 // The frames that words spell.
-fn frames(alloc: Global, names: &Names, mut words: Parts) -> Result<Vec<Frame>, Stop>
-    requires { Covers names.now (names_in_words words) }
+fn frames(alloc: Global, names: &Names, mut words: Parts) -> Result<Vec<Frame>, Stop<FileKind>>
+    requires { HasNames names.now (names_in_words words) }
     ensures value { Gives kind_of (λ fs. map (named_frame names.now) fs.items) result (frames_of words.entry) }
     ensures named { IfOk result (λ fs. IsNamedBy names.now fs.items) }
     ensures len { IfOk result (λ fs. length fs.items ≡ length words.entry) }
@@ -76,8 +73,8 @@ fn frames(alloc: Global, names: &Names, mut words: Parts) -> Result<Vec<Frame>, 
 
 /// The stack that a line spells, where the table has its names.
 #[tactic(auto, unfolding(crate::specs::Judging::stack_of))]
-pub fn stack(alloc: Global, names: &Names, line: &[u8]) -> Result<Stack, Stop>
-    requires { Covers names.now (names_in_line line.now) }
+pub fn stack(alloc: Global, names: &Names, line: &[u8]) -> Result<Stack, Stop<FileKind>>
+    requires { HasNames names.now (names_in_line line.now) }
     ensures value { Gives kind_of (named_stack names.now) result (stack_of (words_of line.now)) }
     ensures named { IfOk result (IsNamedBy names.now) }
 {

@@ -1,11 +1,9 @@
 //! What histories and their texts are to one another, as laws. Each is a function with nothing to do.
-ghost use Rattle.std.specs.Prelude.{◌≡◌, ◌++◌, ℕ, List, Ok};
-ghost use Rattle.dim_stack.specs.Names.{table_of};
+ghost use Rattle.std.specs.Prelude.{◌≡◌, ℕ, List, Ok};
 ghost use Rattle.dim_history_file.specs.Value.{NamedSig};
 ghost use Rattle.dim_history_file.specs.Judging.{history_of};
 ghost use Rattle.dim_history_file.specs.Spelling.{history_text};
 ghost use Rattle.dim_history_file.specs.Grammar.{IsHistory};
-ghost use Rattle.dim_history_file.specs.Naming.{Covers};
 
 /// A text that is read as a history is the one text of that history.
 pub fn spelling_law()
@@ -16,10 +14,4 @@ pub fn spelling_law()
 /// The text of a history is read as that history.
 pub fn reading_law()
     ensures { (sigs : List NamedSig) → IsHistory sigs → history_of (history_text sigs) ≡ Ok sigs }
-{}
-
-/// The table of the names of two lists has those of each, so a history with either may get it.
-pub fn merged_law()
-    ensures first { (a b : List (List ℕ)) → Covers (table_of (a ++ b)) a }
-    ensures second { (a b : List (List ℕ)) → Covers (table_of (a ++ b)) b }
 {}

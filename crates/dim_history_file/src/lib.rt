@@ -10,12 +10,11 @@ mod reader;
 mod reading;
 mod renaming;
 mod signing;
-mod words;
 mod writing;
 
 pub use fault::{FileFault, FileKind, ReadFault};
 pub use history::History;
-pub use laws::{merged_law, reading_law, spelling_law};
+pub use laws::{reading_law, spelling_law};
 pub use reading::read;
 pub use renaming::rename;
 pub use writing::{put_stack, write};

@@ -2,21 +2,21 @@
 ghost use Rattle.std.specs.Prelude.{◌≡◌, ◌<◌, ◌^◌, Some, OnOk, length, map};
 ghost use Rattle.dim_text.specs.Reading.{Gives, Leaves, in_line};
 ghost use Rattle.dim_text.specs.Cuts.{words_of};
-ghost use Rattle.dim_stack.specs.Names.{IsNamedBy};
+ghost use Rattle.dim_text.specs.Stops.{kind_of};
+ghost use Rattle.dim_stack.specs.Names.{IsNamedBy, HasNames};
 ghost use Rattle.dim_signature.specs.Sorted.{AreSorted};
-ghost use Rattle.dim_history_file.specs.Faults.{fault, fault_of, kind_of};
+ghost use Rattle.dim_history_file.specs.Faults.{fault, fault_of};
 ghost use Rattle.dim_history_file.specs.Value.{named_stack};
 ghost use Rattle.dim_history_file.specs.Judging.{head_line, signature_line, end_line, due_line, stack_line, is_less_than_last, step, at_end, start, with_signature};
-ghost use Rattle.dim_history_file.specs.Naming.{Covers, names_in_line};
+ghost use Rattle.dim_history_file.specs.Naming.{names_in_line};
 
-use crate::fault::{Stop, in_line};
+use crate::fault::in_line;
 use crate::frames::stack;
 use crate::signing::{enter, signature};
-use crate::words::{number_from, one_word, two_words, unless};
 use crate::{FileKind, ReadFault};
 use dim_signature::Catalogue;
 use dim_stack::{Names, Stack, compare};
-use dim_text::{Parts, number};
+use dim_text::{Parts, Stop, number, number_from, one_word, two_words, unless};
 use std::alloc::Global;
 
 /// How many signatures a history has at most.
@@ -84,7 +84,7 @@ impl Reader {
         ensures names { self.new.names ≡ self.old.names }
         ensures reading { IsReading self.old → IsReading self.new }
     {
-        let (first, second) = two_words(words)?;
+        let (first, second) = two_words(words, FileKind::Line)?;
         unless(self.catalogue.len() == MOST, FileKind::Limit)?;
         let depth = number_from(first, 1, 32).ok_or(FileKind::Number)?;
         let count = number_from(second, 2, 32).ok_or(FileKind::Number)?;
@@ -103,7 +103,7 @@ impl Reader {
         ensures names { self.new.names ≡ self.old.names }
         ensures reading { IsReading self.old → IsReading self.new }
     {
-        let word = one_word(words)?;
+        let word = one_word(words, FileKind::Line)?;
         let n = number(word, MOST).ok_or(FileKind::Number)?;
         unless(n != self.catalogue.len(), FileKind::Count)?;
         self.stage = Stage::Closed;
@@ -137,7 +137,7 @@ impl Reader {
     }
 
     // Makes the signature of the stacks that were read.
-    fn end_signature(&mut self, alloc: Global, depth: u8) -> Result<(), Stop>
+    fn end_signature(&mut self, alloc: Global, depth: u8) -> Result<(), Stop<FileKind>>
         requires reading { IsReading self.old }
         requires sorted { AreSorted self.old.stacks.items }
         requires few { length self.old.stacks.items < 2 ^ 32 }
@@ -156,11 +156,11 @@ impl Reader {
 
     // A stack of a signature with this depth and so many stacks.
     #[tactic(auto, unfolding(crate::specs::Judging::stack_line))]
-    fn stack_line(&mut self, alloc: Global, depth: u8, count: u32, line: &[u8]) -> Result<(), Stop>
+    fn stack_line(&mut self, alloc: Global, depth: u8, count: u32, line: &[u8]) -> Result<(), Stop<FileKind>>
         requires stage { self.old.stage ≡ Stage.Stacks depth count }
         requires reading { IsReading self.old }
         requires begun { IsBegun (sigs_of self.old) (begun_of self.old depth count) }
-        requires covers { Covers self.old.names (names_in_line line.now) }
+        requires covers { HasNames self.old.names (names_in_line line.now) }
         ensures value { Leaves kind_of (state_of self.new) result (stack_line (sigs_of self.old) (begun_of self.old depth count) (words_of line.now)) }
         ensures names { self.new.names ≡ self.old.names }
         ensures reading { OnOk result (IsReading self.new) }
@@ -176,10 +176,10 @@ impl Reader {
 
     // Takes a line.
     #[tactic(auto, unfolding(crate::specs::Judging::step))]
-    fn take(&mut self, alloc: Global, line: &[u8]) -> Result<(), Stop>
+    fn take(&mut self, alloc: Global, line: &[u8]) -> Result<(), Stop<FileKind>>
         requires reading { IsReading self.old }
         requires fits { Fits (state_of self.old) }
-        requires covers { Covers self.old.names (names_in_line line.now) }
+        requires covers { HasNames self.old.names (names_in_line line.now) }
         ensures value { Leaves kind_of (state_of self.new) result (step (state_of self.old) line.now) }
         ensures names { self.new.names ≡ self.old.names }
         ensures reading { OnOk result (IsReading self.new) }
@@ -197,7 +197,7 @@ impl Reader {
     pub fn step(&mut self, alloc: Global, number: u32, line: &[u8]) -> Result<(), ReadFault>
         requires reading { IsReading self.old }
         requires fits { Fits (state_of self.old) }
-        requires covers { Covers self.old.names (names_in_line line.now) }
+        requires covers { HasNames self.old.names (names_in_line line.now) }
         ensures value { Leaves fault_of (state_of self.new) result (in_line fault number (step (state_of self.old) line.now)) }
         ensures names { self.new.names ≡ self.old.names }
         ensures reading { OnOk result (IsReading self.new) }
@@ -207,7 +207,7 @@ impl Reader {
 
     /// Whether the text may end here.
     #[tactic(auto, unfolding(crate::specs::Judging::at_end))]
-    pub fn finish(&self, last: &[u8]) -> Result<(), Stop>
+    pub fn finish(&self, last: &[u8]) -> Result<(), Stop<FileKind>>
         ensures { Gives kind_of (λ _. sigs_of self.now) result (at_end (state_of self.now) last.now) }
     {
         match self.stage {

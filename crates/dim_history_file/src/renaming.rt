@@ -1,9 +1,8 @@
 //! A history in another table of names.
 ghost use Rattle.std.specs.Prelude.{◌≡◌, ◌<◌, ◌++◌, ◌∷◌, [], All, IfOk, OnOk, length, map};
-ghost use Rattle.dim_stack.specs.Names.{IsNamedBy};
+ghost use Rattle.dim_stack.specs.Names.{IsNamedBy, HasNames};
 ghost use Rattle.dim_history_file.specs.Value.{named_frame, named_stack, named_sig, named, AreNamed};
 ghost use Rattle.dim_history_file.specs.Grammar.{AreNear};
-ghost use Rattle.dim_history_file.specs.Naming.{Covers};
 ghost use Rattle.dim_history_file.specs.Seen.{value_of};
 
 use crate::History;
@@ -25,7 +24,7 @@ fn copied(alloc: Global, names: &Names) -> Result<Names, OutOfMemory>
 // A frame of the same function and offset.
 fn renamed_frame(from: &Names, to: &Names, frame: Frame) -> Frame
     requires within { frame.func < length from.now }
-    requires covers { Covers to.now from.now }
+    requires covers { HasNames to.now from.now }
     ensures same { named_frame to.now result ≡ named_frame from.now frame }
     ensures within { result.func < length to.now }
 {
@@ -43,7 +42,7 @@ fn renamed_stack(
     stack: &Stack,
 ) -> Result<Stack, OutOfMemory>
     requires named { IsNamedBy from.now stack.now }
-    requires covers { Covers to.now from.now }
+    requires covers { HasNames to.now from.now }
     ensures same { IfOk result (λ s. named_stack to.now s ≡ named_stack from.now stack.now) }
     ensures named { IfOk result (IsNamedBy to.now) }
 {
@@ -62,7 +61,7 @@ fn renamed_stacks(
     stacks: &[Stack],
 ) -> Result<Vec<Stack>, OutOfMemory>
     requires named { All (IsNamedBy from.now) stacks.now }
-    requires covers { Covers to.now from.now }
+    requires covers { HasNames to.now from.now }
     ensures same { IfOk result (λ s. map (named_stack to.now) s.items ≡ map (named_stack from.now) stacks.now) }
     ensures named { IfOk result (λ s. All (IsNamedBy to.now) s.items) }
 {
@@ -81,7 +80,7 @@ fn renamed_sig(
     sig: &Signature,
 ) -> Result<Signature, OutOfMemory>
     requires named { All (IsNamedBy from.now) sig.now.stacks }
-    requires covers { Covers to.now from.now }
+    requires covers { HasNames to.now from.now }
     ensures same { IfOk result (λ s. named_sig to.now s ≡ named_sig from.now sig.now) }
     ensures named { IfOk result (λ s. All (IsNamedBy to.now) s.stacks) }
 {
@@ -102,7 +101,7 @@ fn append(catalogue: &mut Catalogue, sig: Signature) -> Result<(), OutOfMemory>
 
 // The same signatures in another table. They differ there as they did, so each is appended.
 fn renamed_catalogue(alloc: Global, h: &History, names: &Names) -> Result<Catalogue, OutOfMemory>
-    requires { Covers names.now h.now.names }
+    requires { HasNames names.now h.now.names }
     ensures same { IfOk result (λ c. named names.now c.sigs ≡ value_of h.now) }
     ensures named { IfOk result (λ c. AreNamed names.now c.sigs) }
 {
@@ -116,7 +115,7 @@ fn renamed_catalogue(alloc: Global, h: &History, names: &Names) -> Result<Catalo
 
 /// The same history with this table of names, in which each of its names has to stand.
 pub fn rename(alloc: Global, h: History, names: &Names) -> Result<History, OutOfMemory>
-    requires { Covers names.now h.names }
+    requires { HasNames names.now h.names }
     ensures names { IfOk result (λ r. r.names ≡ names.now) }
     ensures value { IfOk result (λ r. value_of r ≡ value_of h) }
     ensures near { AreNear h.catalogue.sigs → IfOk result (λ r. AreNear r.catalogue.sigs) }

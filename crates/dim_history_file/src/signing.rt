@@ -2,14 +2,14 @@
 ghost use Rattle.std.specs.Prelude.{◌≡◌, ◌<◌, ◌≤◌, ◌^◌, length, IfOk};
 ghost use Rattle.dim_text.specs.Reading.{Leaves};
 ghost use Rattle.dim_signature.specs.Sorted.{AreSorted};
-ghost use Rattle.dim_history_file.specs.Faults.{kind_of};
+ghost use Rattle.dim_text.specs.Stops.{kind_of};
 ghost use Rattle.dim_history_file.specs.Signing.{entered};
 
 use crate::FileKind;
-use crate::fault::Stop;
 use dim_base::OutOfMemory;
 use dim_signature::{Add, Catalogue, Signature};
 use dim_stack::Stack;
+use dim_text::Stop;
 use std::alloc::Global;
 
 /// The signature of 2 to 32 stacks in order, with a depth from 1 to 32.
@@ -25,7 +25,7 @@ pub fn signature(alloc: Global, depth: u8, stacks: &[Stack]) -> Result<Signature
 }
 
 /// Appends a signature to fewer than 4,096, or finds that one has the same stacks.
-pub fn enter(catalogue: &mut Catalogue, sig: Signature) -> Result<(), Stop>
+pub fn enter(catalogue: &mut Catalogue, sig: Signature) -> Result<(), Stop<FileKind>>
     requires { length catalogue.old.sigs < 4096 }
     ensures { Leaves kind_of catalogue.new.sigs result (entered catalogue.old.sigs sig) }
 {

@@ -1,5 +1,5 @@
 ghost use Rattle.std.specs.Prelude.{IfOk};
-ghost use Rattle.dim_history_file.specs.Naming.{Covers};
+ghost use Rattle.dim_stack.specs.Names.{HasNames};
 
 use super::*;
 use dim_stack::Names;
@@ -121,7 +121,7 @@ fn a_stack_has_at_most_32_frames(rt: HostRuntime) {
 
 // A table of the names of a history and two more.
 fn wider(alloc: Global, h: &History) -> Result<Names, ReadFault>
-    ensures { IfOk result (λ n. Covers n h.now.names) }
+    ensures { IfOk result (λ n. HasNames n h.now.names) }
 {
     let more = read(alloc, b"dim history 1\nsignature 4 2\na:0\nzoo:0\nend 1\n")?;
     if more.names.len() > 9 || h.names.len() > 9 {

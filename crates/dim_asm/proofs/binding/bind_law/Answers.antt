@@ -1,4 +1,4 @@
-use Rattle.dim_asm.proofs.BoundLemmas.{kept, numbers, last, own, merged}
+use Rattle.dim_asm.proofs.BoundLemmas.{kept, numbers, last, own}
 use Rattle.dim_asm.proofs.binding.bind_law.Goals as goal
 
 pub returns-clause-kept : goal.returns-clause-kept
@@ -12,6 +12,3 @@ returns-clause-last c = last
 
 pub returns-clause-own : goal.returns-clause-own
 returns-clause-own c = own
-
-pub returns-clause-merged : goal.returns-clause-merged
-returns-clause-merged c = merged

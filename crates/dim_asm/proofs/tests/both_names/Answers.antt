@@ -1,7 +1,7 @@
 use Rattle.std.proofs.Common.{◌≡◌, ◌++◌, sym, subst}
 use Rattle.std.proofs.lemmas.Result.{IfOk-weaker}
-use Rattle.dim_stack.specs.Names.{table_of}
-use Rattle.dim_asm.specs.Bound.{KnowsFuncs}
+use Rattle.dim_stack.specs.Names.{HasNames, table_of}
+use Rattle.dim_asm.specs.Code.{func_names}
 use Rattle.dim_asm.proofs.tests.both_names.Goals as goal
 
 pub returns : goal.returns
@@ -9,5 +9,5 @@ returns c =
     let p = c.args.p.now in
     let own = c.in_ok-names.field-0 in
     let others = c.in_ok-names-2.field-0 in
-    let known = c.bind_law.ensures.merged own others p c.in_ok-names.ensures.known in
-    IfOk-weaker c.merge-3.result (λ names. names ≡ table_of (own ++ others)) (λ names. KnowsFuncs names p) (λ names is. subst (λ table. KnowsFuncs table p) (sym is) known) c.merge-3.ensures
+    let known = c.merged_law.ensures.first own others (func_names p.funcs) c.in_ok-names.ensures.known in
+    IfOk-weaker c.merge-3.result (λ names. names ≡ table_of (own ++ others)) (λ names. HasNames names (func_names p.funcs)) (λ names is. subst (λ table. HasNames table (func_names p.funcs)) (sym is) known) c.merge-3.ensures

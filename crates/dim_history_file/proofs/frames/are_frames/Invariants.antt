@@ -1,6 +1,6 @@
 use Rattle.std.proofs.Common.{◌≡◌, length}
 use Rattle.std.specs.List.{list_all}
-use Rattle.dim_history_file.specs.Judging.{has_sides}
+use Rattle.dim_text.specs.Words.{has_sides}
 use Rattle.dim_history_file.proofs.frames.are_frames.Given as goal
 
 abbrev pub invariant-loop-word : goal.invariant-loop-word

@@ -3,12 +3,12 @@ use Rattle.std.proofs.lemmas.List.{map_push, length_push}
 use Rattle.std.proofs.lemmas.List.Elements.{All-push}
 use Rattle.dim_text.specs.Reading.{◌>>=◌}
 use Rattle.dim_stack.specs.declared.Frame.{Frame}
-use Rattle.dim_stack.specs.Names.{IsNamedBy}
+use Rattle.dim_stack.specs.Names.{IsNamedBy, HasNames}
 use Rattle.dim_history_file.specs.declared.fault.FileKind.{FileKind}
 use Rattle.dim_history_file.specs.Value.{NamedFrame, named_frame}
 use Rattle.dim_history_file.specs.Judging.{frame_of, frames_of}
-use Rattle.dim_history_file.specs.Naming.{Covers, names_in_word, names_in_words}
-use Rattle.dim_history_file.proofs.Using.{covers_right}
+use Rattle.dim_history_file.specs.Naming.{names_in_word, names_in_words}
+use Rattle.dim_history_file.proofs.Using.{has_right}
 use Rattle.dim_history_file.proofs.frames.frames.Goals as goal
 
 one_more : (front : List NamedFrame) (f : NamedFrame) (r : Result (List NamedFrame) FileKind) → ((r >>= λ gs. Ok (f ∷ gs)) >>= λ gs. Ok (front ++ gs)) ≡ (r >>= λ gs. Ok ((front ++ f ∷ []) ++ gs))
@@ -39,5 +39,5 @@ loop-word-preserved c =
       same = frames_step names c.args.words c.loop-word.words rest word fs new f c.loop-word.invariant.same c.in-Some.ensures c.in_ok-frame.ensures.value more;
       named = subst (IsNamedBy names) (sym more) (All-push (λ (g : Frame). g.func < length names) fs f c.loop-word.invariant.named c.in_ok-frame.ensures.named);
       size = omega (arith, c.loop-word.invariant.size, ap length c.in-Some.ensures, ap length more, length_push fs f);
-      covers = covers_right names (names_in_word word) (names_in_words rest) (subst (λ ws. Covers names (names_in_words ws)) c.in-Some.ensures c.loop-word.invariant.covers);
+      covers = has_right names (names_in_word word) (names_in_words rest) (subst (λ ws. HasNames names (names_in_words ws)) c.in-Some.ensures c.loop-word.invariant.covers);
     }

@@ -2,16 +2,16 @@ use Rattle.std.proofs.Common.{◌≡◌, ◌+◌, length, arith, refl, sym, ap, 
 use Rattle.std.proofs.lemmas.Result.{err_from_is_err_and}
 use Rattle.dim_text.specs.Reading.{Fails, in_line, read_from}
 use Rattle.dim_text.proofs.ReadingLemmas.{in_line_ok}
-use Rattle.dim_stack.specs.Names.{table_of}
+use Rattle.dim_stack.specs.Names.{table_of, HasNames}
 use Rattle.dim_history_file.specs.Faults.{fault, fault_of}
 use Rattle.dim_history_file.specs.Judging.{step, at_end, start, history_of}
 use Rattle.dim_history_file.specs.Spelling.{lines_so_far}
 use Rattle.dim_history_file.specs.Grammar.{Fits}
-use Rattle.dim_history_file.specs.Naming.{Covers, names_in, names_in_line, names_in_lines}
+use Rattle.dim_history_file.specs.Naming.{names_in, names_in_line, names_in_lines}
 use Rattle.dim_history_file.specs.Reader.{sigs_of, state_of}
 use Rattle.dim_history_file.proofs.Endings.{last_ends, failing, going_on, judged_end, good_end, exits}
 use Rattle.dim_history_file.proofs.Moving.{fits_start, line_after}
-use Rattle.dim_history_file.proofs.Using.{covers_table, covers_left, covers_right}
+use Rattle.dim_history_file.proofs.Using.{has_all, has_left, has_right}
 use Rattle.dim_history_file.proofs.reading.read_lines.Goals as goal
 
 pub loop-line-init : goal.loop-line-init
@@ -24,14 +24,14 @@ loop-line-init c =
       names = names;
       reading = c.new-reader.ensures.reading;
       fits = subst Fits (sym state) fits_start;
-      covers = subst (λ t. Covers t (names_in_lines c.lines-lines.result)) (sym names) (subst (λ ls. Covers (table_of (names_in bytes)) (names_in_lines ls)) (sym c.lines-lines.ensures) (covers_table (names_in bytes)));
+      covers = subst (λ t. HasNames t (names_in_lines c.lines-lines.result)) (sym names) (subst (λ ls. HasNames (table_of (names_in bytes)) (names_in_lines ls)) (sym c.lines-lines.ensures) (has_all (names_in bytes)));
       number = ap (λ s. 1 + length (lines_so_far s)) (sym state);
     }
 
 pub step-requires-clause-covers : goal.step-requires-clause-covers
 step-requires-clause-covers c =
     let names = c.loop-line.reader.names in
-    covers_left names (names_in_line c.in-Some.line.now) (names_in_lines c.next_ended.new.self) (subst (λ ls. Covers names (names_in_lines ls)) c.in-Some.ensures.0 c.loop-line.invariant.covers)
+    has_left names (names_in_line c.in-Some.line.now) (names_in_lines c.next_ended.new.self) (subst (λ ls. HasNames names (names_in_lines ls)) c.in-Some.ensures.0 c.loop-line.invariant.covers)
 
 pub returns-in_err-step-clause-value : goal.returns-in_err-step-clause-value
 returns-in_err-step-clause-value c =
@@ -58,13 +58,13 @@ loop-line-preserved c =
     let kept : c.step.new.self.names ≡ old = c.in_ok-step.ensures.names in
     let taken = in_line_ok fault n (step s line) t c.in_ok-step.ensures.value in
     let after = line_after s t line n c.loop-line.invariant.fits taken c.loop-line.invariant.number in
-    let covers = covers_right old (names_in_line line) (names_in_lines rest) (subst (λ ls. Covers old (names_in_lines ls)) c.in-Some.ensures.0 c.loop-line.invariant.covers) in
+    let covers = has_right old (names_in_line line) (names_in_lines rest) (subst (λ ls. HasNames old (names_in_lines ls)) c.in-Some.ensures.0 c.loop-line.invariant.covers) in
     record {
       same = going_on s t n line rest c.loop-line.lines (history_of c.args.bytes.now) c.in-Some.ensures.0 c.in-Some.ensures.1 c.loop-line.invariant.same c.in_ok-step.ensures.value;
       names = kept ∙ c.loop-line.invariant.names;
       reading = c.in_ok-step.ensures.reading;
       fits = after.0;
-      covers = subst (λ t. Covers t (names_in_lines rest)) (sym kept) covers;
+      covers = subst (λ t. HasNames t (names_in_lines rest)) (sym kept) covers;
       number = after.1;
     }
 

@@ -1,4 +1,5 @@
-use Rattle.std.proofs.Common.{map, ap, sym, ◌∙◌}
+use Rattle.std.proofs.Common.{List, ℕ, map, ap, sym, ◌∙◌, subst}
+use Rattle.dim_stack.specs.Names.{HasNames}
 use Rattle.dim_history_file.specs.Value.{NamedSig}
 use Rattle.dim_history_file.proofs.Sound.{depths_named, near_renamed}
 use Rattle.dim_history_file.proofs.renaming.rename.Goals as goal
@@ -12,3 +13,6 @@ returns-clause-depths c =
 pub returns-clause-near : goal.returns-clause-near
 returns-clause-near c near =
     near_renamed c.args.h.names c.in_ok-names.names c.args.h.catalogue.sigs c.in_ok-catalogue.catalogue.sigs c.in_ok-catalogue.ensures.same near
+
+pub renamed_catalogue-requires : goal.renamed_catalogue-requires
+renamed_catalogue-requires c = subst (λ (t : List (List ℕ)). HasNames t c.args.h.names) (sym c.in_ok-names.ensures) c.requires

@@ -2,6 +2,7 @@ use Rattle.std.proofs.Common.{◌≡◌, ℕ, inl, inr, true, false, List, ◌�
 use Rattle.std.specs.Prelude.{IfSome, nat_lt}
 use Rattle.std.specs.List.{list_any}
 use Rattle.std.proofs.lemmas.Bool.{cond-true, cond-false}
+use Rattle.dim_text.proofs.WordLemmas.{chosen}
 use Rattle.dim_signature.specs.declared.catalogue.Add.{Add}
 use Rattle.dim_signature.specs.declared.catalogue.Add.TheVariants.{Known}
 use Rattle.dim_signature.specs.Sig.{Sig}
@@ -10,7 +11,6 @@ use Rattle.dim_signature.specs.Refusal.{refusal_of}
 use Rattle.dim_signature.specs.Order.{no_sig}
 use Rattle.dim_history_file.specs.declared.fault.FileKind.TheVariants.{Double}
 use Rattle.dim_history_file.proofs.Comparing.{any_at, any_none}
-use Rattle.dim_history_file.proofs.Judged.{chosen}
 use Rattle.dim_history_file.proofs.signing.enter.Goals as goal
 
 none_has : (sigs : List Sig) (s : Sig) (n : ℕ) → IfSome (refusal_of sigs s.stacks) (λ e. ◌≡◌ {A = Result ℕ Add} (Ok n) (Err e)) → list_any (has_stacks s.stacks) sigs ≡ false

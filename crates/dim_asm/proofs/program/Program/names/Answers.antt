@@ -1,7 +1,7 @@
 use Rattle.std.proofs.Common.{rules, ◌≡◌, ◌≤◌, All, length, sym, subst}
 use Rattle.dim_text.specs.Naming.{IsName}
+use Rattle.dim_stack.specs.Names.{HasNames}
 use Rattle.dim_asm.specs.Code.{func_names, IsProgram}
-use Rattle.dim_asm.specs.Bound.{KnowsFuncs}
 use Rattle.dim_asm.proofs.BoundLemmas.{own, named, few_own_names, own_is}
 use Rattle.dim_asm.proofs.program.Program.names.Goals as goal
 
@@ -14,7 +14,7 @@ of-requires-clause-named c =
 pub returns-clause-known : goal.returns-clause-known
 returns-clause-known c =
     let is : c.deref-2.result.now ≡ func_names c.args.self.now.funcs = search rules in
-    own_is c.args.self.now c.of.result c.deref-2.result.now (λ names. KnowsFuncs names c.args.self.now) is (own c.args.self.now) c.of.ensures
+    own_is c.args.self.now c.of.result c.deref-2.result.now (λ names. HasNames names (func_names c.args.self.now.funcs)) is (own c.args.self.now) c.of.ensures
 
 pub returns-clause-few : goal.returns-clause-few
 returns-clause-few c =

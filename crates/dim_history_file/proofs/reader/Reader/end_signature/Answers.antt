@@ -1,8 +1,8 @@
 use Rattle.std.proofs.Common.{◌≡◌, ap, ◌∙◌, subst}
 use Rattle.std.proofs.lemmas.Result.{on_ok_weaker}
 use Rattle.dim_text.specs.Reading.{Leaves}
+use Rattle.dim_text.specs.Stops.{kind_of}
 use Rattle.dim_signature.specs.Sig.{Sig}
-use Rattle.dim_history_file.specs.Faults.{kind_of}
 use Rattle.dim_history_file.specs.Signing.{entered}
 use Rattle.dim_history_file.proofs.Taking.{entered_leaves, entered_keeps}
 use Rattle.dim_history_file.proofs.reader.Reader.end_signature.Goals as goal

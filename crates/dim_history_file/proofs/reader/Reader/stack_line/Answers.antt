@@ -3,7 +3,7 @@ use Rattle.std.proofs.lemmas.Grind.{common_steps}
 use Rattle.std.proofs.lemmas.List.{length-map, length_push}
 use Rattle.dim_text.specs.Reading.{Leaves}
 use Rattle.dim_text.specs.Cuts.{words_of}
-use Rattle.dim_history_file.specs.Faults.{kind_of}
+use Rattle.dim_text.specs.Stops.{kind_of}
 use Rattle.dim_history_file.specs.Value.{named_stack}
 use Rattle.dim_history_file.specs.Judging.{State, is_less_than_last}
 use Rattle.dim_history_file.specs.Reader.{sigs_of, state_of, stage_of}
