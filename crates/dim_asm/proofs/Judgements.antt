@@ -140,7 +140,7 @@ draft_spelled first words Push word d is argument e =
     let number = or_else_ok (signed_of word) Number parts.0 parts.1 in
     let same : Ready (op.Push parts.0) ≡ d = cc (parts.2) in
     subst (λ x. (first ∷ words ≡ draft_words x) × IsDraft x) same (
-      ap (λ ws. first ∷ ws) (one_word_ok words word argument) ∙ both_words first word (codes "PUSH") (signed_decimal parts.0) row (signed_of-Some word parts.0 number),
+      ap (λ ws. first ∷ ws) (one_word_ok words word Shape argument) ∙ both_words first word (codes "PUSH") (signed_decimal parts.0) row (signed_of-Some word parts.0 number),
       signed_fits word parts.0 number,
     )
 draft_spelled first words (Counts c) word d is argument e =
@@ -150,7 +150,7 @@ draft_spelled first words (Counts c) word d is argument e =
     let found = number_of-Some (most_of c) parts.0 word (most_small c) number in
     let same : Ready (counted c parts.0) ≡ d = cc (parts.2) in
     subst (λ x. (first ∷ words ≡ draft_words x) × IsDraft x) same (
-      ap (λ ws. first ∷ ws) (one_word_ok words word argument) ∙ ap (λ w. first ∷ w ∷ []) found.1 ∙ sym (row parts.0),
+      ap (λ ws. first ∷ ws) (one_word_ok words word Shape argument) ∙ ap (λ w. first ∷ w ∷ []) found.1 ∙ sym (row parts.0),
       counted_ready c parts.0 found.0,
     )
 draft_spelled first words (Names n) word d is argument e =
@@ -159,7 +159,7 @@ draft_spelled first words (Names n) word d is argument e =
     let name = name_ok word parts.0 (or_else_ok (name_of word) Name parts.0 parts.1) in
     let same : Refers n parts.0 ≡ d = cc (parts.2) in
     subst (λ x. (first ∷ words ≡ draft_words x) × IsDraft x) same (
-      ap (λ ws. first ∷ ws) (one_word_ok words word argument) ∙ both_words first word (naming_word n) parts.0 row name.0,
+      ap (λ ws. first ∷ ws) (one_word_ok words word Shape argument) ∙ both_words first word (naming_word n) parts.0 row name.0,
       name.1,
     )
 

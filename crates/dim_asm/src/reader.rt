@@ -11,9 +11,7 @@ ghost use Rattle.dim_asm.specs.Seen.{seen_draft, seen_statement};
 use crate::draft::{Draft, DraftFunction, DraftStart};
 use crate::fault::in_line;
 use crate::mnemonic::mnemonic_of;
-use crate::statement::{
-    Statement, argument_word, close_line, draft_of, no_word,
-};
+use crate::statement::{Statement, argument_word, close_line, draft_of, no_word};
 use crate::symbols::Symbols;
 use crate::{AsmError, AsmKind};
 use dim_base::OutOfMemory;

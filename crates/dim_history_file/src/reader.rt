@@ -1,9 +1,10 @@
 //! The reader of a history, line by line.
-ghost use Rattle.std.specs.Prelude.{◌≡◌, ◌<◌, ◌^◌, Some, OnOk, length, map};
+ghost use Rattle.std.specs.Prelude.{◌≡◌, ◌<◌, Some, OnOk, length, map};
 ghost use Rattle.dim_text.specs.Reading.{Gives, Leaves, in_line};
 ghost use Rattle.dim_text.specs.Cuts.{words_of};
 ghost use Rattle.dim_text.specs.Stops.{kind_of};
 ghost use Rattle.dim_stack.specs.Names.{IsNamedBy, HasNames};
+ghost use Rattle.dim_signature.specs.Sig.{IsSig};
 ghost use Rattle.dim_signature.specs.Sorted.{AreSorted};
 ghost use Rattle.dim_history_file.specs.Faults.{fault, fault_of};
 ghost use Rattle.dim_history_file.specs.Value.{named_stack};
@@ -140,7 +141,7 @@ impl Reader {
     fn end_signature(&mut self, alloc: Global, depth: u8) -> Result<(), Stop<FileKind>>
         requires reading { IsReading self.old }
         requires sorted { AreSorted self.old.stacks.items }
-        requires few { length self.old.stacks.items < 2 ^ 32 }
+        requires in_range { IsSig record { depth = depth; stacks = self.old.stacks.items } }
         requires room { length self.old.catalogue.sigs < 4096 }
         ensures value { Leaves kind_of (state_of self.new) result (with_signature (sigs_of self.old) record {
           depth = depth;
@@ -156,7 +157,13 @@ impl Reader {
 
     // A stack of a signature with this depth and so many stacks.
     #[tactic(auto, unfolding(crate::specs::Judging::stack_line))]
-    fn stack_line(&mut self, alloc: Global, depth: u8, count: u32, line: &[u8]) -> Result<(), Stop<FileKind>>
+    fn stack_line(
+        &mut self,
+        alloc: Global,
+        depth: u8,
+        count: u32,
+        line: &[u8],
+    ) -> Result<(), Stop<FileKind>>
         requires stage { self.old.stage ≡ Stage.Stacks depth count }
         requires reading { IsReading self.old }
         requires begun { IsBegun (sigs_of self.old) (begun_of self.old depth count) }

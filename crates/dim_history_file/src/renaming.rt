@@ -1,6 +1,7 @@
 //! A history in another table of names.
-ghost use Rattle.std.specs.Prelude.{◌≡◌, ◌<◌, ◌++◌, ◌∷◌, [], All, IfOk, OnOk, length, map};
+ghost use Rattle.std.specs.Prelude.{◌≡◌, ◌<◌, ◌++◌, ◌∷◌, [], All, IfOk, None, OnOk, length, map};
 ghost use Rattle.dim_stack.specs.Names.{IsNamedBy, HasNames};
+ghost use Rattle.dim_signature.specs.Refusal.{refusal_of};
 ghost use Rattle.dim_history_file.specs.Value.{named_frame, named_stack, named_sig, named, AreNamed};
 ghost use Rattle.dim_history_file.specs.Grammar.{AreNear};
 ghost use Rattle.dim_history_file.specs.Seen.{value_of};
@@ -8,7 +9,7 @@ ghost use Rattle.dim_history_file.specs.Seen.{value_of};
 use crate::History;
 use crate::signing::signature;
 use dim_base::OutOfMemory;
-use dim_signature::{Catalogue, Signature};
+use dim_signature::{Add, Catalogue, Signature};
 use dim_stack::{Frame, Names, Stack};
 use std::alloc::Global;
 
@@ -89,13 +90,15 @@ fn renamed_sig(
     signature(alloc, sig.depth(), &stacks)
 }
 
-// Appends a signature whose stacks no other has.
+// Appends a signature whose stacks no other has, to fewer than 4,096.
 fn append(catalogue: &mut Catalogue, sig: Signature) -> Result<(), OutOfMemory>
+    requires { refusal_of catalogue.old.sigs sig.stacks ≡ None }
     ensures { OnOk result (catalogue.new.sigs ≡ catalogue.old.sigs ++ sig ∷ []) }
 {
     match catalogue.add(sig) {
         Ok(_) => Ok(()),
-        Err(_) => Err(OutOfMemory),
+        Err(Add::OutOfMemory) => Err(OutOfMemory),
+        Err(_) => unreachable!(),
     }
 }
 
@@ -105,6 +108,7 @@ fn renamed_catalogue(alloc: Global, h: &History, names: &Names) -> Result<Catalo
     ensures same { IfOk result (λ c. named names.now c.sigs ≡ value_of h.now) }
     ensures named { IfOk result (λ c. AreNamed names.now c.sigs) }
 {
+    let _tables = (h.names.len(), names.len());
     let mut catalogue = Catalogue::new(alloc);
     for i in 0..h.catalogue.len() {
         let sig = renamed_sig(alloc, &h.names, names, h.catalogue.get(i))?;

@@ -1,26 +1,28 @@
 //! Signatures of stacks that stand in order, and a catalogue that takes them.
-ghost use Rattle.std.specs.Prelude.{◌≡◌, ◌<◌, ◌≤◌, ◌^◌, length, IfOk};
+ghost use Rattle.std.specs.Prelude.{◌≡◌, ◌<◌, length, IfOk};
 ghost use Rattle.dim_text.specs.Reading.{Leaves};
+ghost use Rattle.dim_signature.specs.Sig.{IsSig};
 ghost use Rattle.dim_signature.specs.Sorted.{AreSorted};
 ghost use Rattle.dim_text.specs.Stops.{kind_of};
 ghost use Rattle.dim_history_file.specs.Signing.{entered};
 
 use crate::FileKind;
 use dim_base::OutOfMemory;
-use dim_signature::{Add, Catalogue, Signature};
+use dim_signature::{Add, Catalogue, SigFault, Signature};
 use dim_stack::Stack;
 use dim_text::Stop;
 use std::alloc::Global;
 
 /// The signature of 2 to 32 stacks in order, with a depth from 1 to 32.
 pub fn signature(alloc: Global, depth: u8, stacks: &[Stack]) -> Result<Signature, OutOfMemory>
-    requires few { length stacks.now < 2 ^ 32 }
+    requires in_range { IsSig record { depth = depth; stacks = stacks.now } }
     requires sorted { AreSorted stacks.now }
     ensures { IfOk result (λ s. s ≡ record { depth = depth; stacks = stacks.now }) }
 {
     match Signature::new(alloc, depth, stacks) {
         Ok(sig) => Ok(sig),
-        Err(_) => Err(OutOfMemory),
+        Err(SigFault::OutOfMemory) => Err(OutOfMemory),
+        Err(_) => unreachable!(),
     }
 }
 
@@ -32,6 +34,7 @@ pub fn enter(catalogue: &mut Catalogue, sig: Signature) -> Result<(), Stop<FileK
     match catalogue.add(sig) {
         Ok(_) => Ok(()),
         Err(Add::Known { .. }) => Err(Stop::Bad(FileKind::Double)),
-        Err(_) => Err(Stop::OutOfMemory),
+        Err(Add::OutOfMemory) => Err(Stop::OutOfMemory),
+        Err(Add::Full) => unreachable!(),
     }
 }

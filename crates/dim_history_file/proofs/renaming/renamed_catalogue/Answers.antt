@@ -4,6 +4,7 @@ use Rattle.std.proofs.lemmas.List.Elements.{All-push}
 use Rattle.dim_signature.specs.Sig.{Sig}
 use Rattle.dim_stack.specs.Names.{IsNamedBy}
 use Rattle.dim_history_file.specs.Value.{named_sig, named, AreNamed}
+use Rattle.dim_history_file.proofs.Renewing.{is_new}
 use Rattle.dim_history_file.proofs.Sound.{map_one_more}
 use Rattle.dim_history_file.proofs.renaming.renamed_catalogue.Goals as goal
 
@@ -22,3 +23,11 @@ loop-i-preserved c =
           ∙ sym (map_one_more (named_sig from) c.args.h.now.catalogue.sigs c.loop-i.i c.get.result.now c.get.ensures.value);
       named = subst (AreNamed names) (sym more) (All-push (λ (s : Sig). All (IsNamedBy names) s.stacks) sigs sig c.loop-i.invariant.named c.in_ok-sig.ensures.named);
     }
+
+pub append-requires : goal.append-requires
+append-requires c =
+    let names = c.args.names.now in
+    let from = c.args.h.now.names in
+    let known = c.args.h.now.named in
+    is_new from names c.len.ensures.table.ascending c.len-2.ensures.table.ascending c.args.h.now.catalogue.sigs c.loop-i.catalogue.sigs c.get.result.now c.in_ok-sig.sig c.loop-i.i
+    c.len-i-end.ensures.catalogue known c.get.ensures.value c.loop-i.invariant.named c.loop-i.invariant.same c.in_ok-sig.ensures.named c.in_ok-sig.ensures.same

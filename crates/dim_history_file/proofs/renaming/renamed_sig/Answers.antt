@@ -1,4 +1,5 @@
-use Rattle.std.proofs.Common.{map, sym, ap, ◌∙◌, subst}
+use Rattle.std.proofs.Common.{◌≡◌, length, map, arith, sym, ap, ◌∙◌, subst}
+use Rattle.std.proofs.lemmas.List.{length-map}
 use Rattle.dim_signature.specs.Sorted.{AreSorted}
 use Rattle.dim_history_file.specs.Value.{named_stack}
 use Rattle.dim_history_file.specs.Grammar.{AreInOrder}
@@ -13,3 +14,21 @@ signature-requires-clause-sorted c =
     let before = in_order_named from c.len.ensures.table.ascending c.args.sig.now.stacks c.requires.named c.as_slice.ensures.ordered in
     let same = c.in_ok-stacks.ensures.same ∙ ap (map (named_stack from)) c.as_slice.ensures.stacks in
     subst AreSorted (sym c.deref.ensures.value) (sorted_named to c.len-2.ensures.table.ascending stacks c.in_ok-stacks.ensures.named (subst AreInOrder (sym same) before))
+
+pub signature-requires-clause-in_range : goal.signature-requires-clause-in_range
+signature-requires-clause-in_range c =
+    let sig = c.as_slice.ensures.signature in
+    let stacks = c.in_ok-stacks.stacks.items in
+    let to = c.args.to.now in
+    let from = c.args.from.now in
+    let size : length c.deref.result.now ≡ length c.args.sig.now.stacks =
+    ap length c.deref.ensures.value
+    ∙ sym (length-map stacks (named_stack to))
+    ∙ ap length (c.in_ok-stacks.ensures.same ∙ ap (map (named_stack from)) c.as_slice.ensures.stacks)
+    ∙ length-map c.args.sig.now.stacks (named_stack from) in
+    record {
+      low = c.depth.ensures.low;
+      high = c.depth.ensures.high;
+      some = omega (arith, size, sig.some);
+      few = omega (arith, size, sig.few);
+    }
