@@ -1,5 +1,5 @@
 //! The graph of a history: its allow and hold edges, and what each thread does.
-ghost use Rattle.std.specs.Prelude.{◌≡◌, ℕ, ◌+◌, ◌-◌, ◌<◌, ◌≤◌, ◌^◌, [], ◌∷◌, ◌++◌, length, max, replicate, Some, None, IfOk, IfSome, IfNone};
+ghost use Rattle.std.specs.Prelude.{◌≡◌, ℕ, ◌+◌, ◌-◌, ◌<◌, ◌≤◌, ◌^◌, [], ◌∷◌, ◌++◌, length, max, replicate, Some, None, IfOk, IfSome, IfNone, option_map};
 ghost use Rattle.dim_rag.specs.declared.entry.Edge.{Edge};
 ghost use Rattle.dim_rag.specs.History.{past, mode, allow, hold};
 ghost use Rattle.dim_rag.specs.Holder.{holder};
@@ -18,7 +18,7 @@ mod told;
 
 use crate::entry::{Edge, Entry, Mode};
 use dim_base::{Lid, OutOfMemory, Tid};
-use row::{Row, held_by, replay};
+use row::{Row, birth_held_by, held_by, owner_of, replay};
 pub use set::{is_member, without};
 use std::alloc::Global;
 use std::marker::Model;
@@ -149,6 +149,22 @@ impl Graph {
         ensures thread { IfSome result (λ e. e.t.0 < self.now.threads) }
     {
         self.holders[l.0 as usize]
+    }
+
+    /// The thread that holds a lock; none exactly where no thread does. It copies no edge.
+    pub fn owner(&self, l: Lid) -> Option<Tid>
+        requires { l.0 < self.now.locks }
+        ensures { result ≡ option_map (λ (e : Edge). e.t) (holder self.now.threads l.0 (past self.now.entries)) }
+    {
+        owner_of(&self.holders[l.0 as usize])
+    }
+
+    /// The birth of the hold edge of a thread on a lock; none exactly where the thread doesn't hold it. It copies no edge.
+    pub fn hold_birth(&self, t: Tid, l: Lid) -> Option<u32>
+        requires { l.0 < self.now.locks }
+        ensures { result ≡ option_map (λ (e : Edge). e.birth) (hold t.0 l.0 (past self.now.entries)) }
+    {
+        birth_held_by(t, &self.holders[l.0 as usize])
     }
 
     /// The hold edge of a thread on a lock; none exactly where the thread doesn't hold it.

@@ -174,6 +174,22 @@ impl Tables {
         self.graph.holder(l)
     }
 
+    /// The thread that holds a lock; none exactly where no thread does. It copies no edge.
+    pub fn owner(&self, l: Lid) -> Option<Tid>
+        requires { l.0 < self.now.locks }
+        ensures { result ≡ option_map (λ (e : Edge). e.t) (holder self.now.threads l.0 (past self.now.entries)) }
+    {
+        self.graph.owner(l)
+    }
+
+    /// The birth of the hold edge of a thread on a lock; none exactly where the thread doesn't hold it. It copies no edge.
+    pub fn hold_birth(&self, t: Tid, l: Lid) -> Option<u32>
+        requires { l.0 < self.now.locks }
+        ensures { result ≡ option_map (λ (e : Edge). e.birth) (hold t.0 l.0 (past self.now.entries)) }
+    {
+        self.graph.hold_birth(t, l)
+    }
+
     /// The hold edge of a thread on a lock; none exactly where the thread doesn't hold it.
     pub fn hold_of(&self, t: Tid, l: Lid) -> Option<Edge>
         requires { l.0 < self.now.locks }

@@ -1,5 +1,6 @@
 //! What is kept of a thread and of a lock, and what an entry changes of it.
-ghost use Rattle.std.specs.Prelude.{◌≡◌, vec_len};
+ghost use Rattle.std.specs.Prelude.{◌≡◌, vec_len, option_map};
+ghost use Rattle.dim_rag.specs.declared.entry.Edge.{Edge};
 ghost use Rattle.dim_rag.specs.Fits.{IsInRange};
 ghost use Rattle.dim_rag.specs.Tables.{thread_of, held_by};
 ghost use Rattle.dim_rag.specs.Born.{with_birth};
@@ -130,6 +131,26 @@ pub fn held_by(t: Tid, holder: Option<Edge>) -> Option<Edge>
 {
     match holder {
         Some(e) if e.t.0 == t.0 => Some(e),
+        _ => None,
+    }
+}
+
+/// The thread of an edge, if there is one.
+pub fn owner_of(edge: &Option<Edge>) -> Option<Tid>
+    ensures { result ≡ option_map (λ (e : Edge). e.t) edge.now }
+{
+    match edge {
+        Some(e) => Some(e.t),
+        None => None,
+    }
+}
+
+/// The birth of a lock's hold edge, if it is one of this thread.
+pub fn birth_held_by(t: Tid, holder: &Option<Edge>) -> Option<u32>
+    ensures { result ≡ option_map (λ (e : Edge). e.birth) (held_by t.0 holder.now) }
+{
+    match holder {
+        Some(e) if e.t.0 == t.0 => Some(e.birth),
         _ => None,
     }
 }
