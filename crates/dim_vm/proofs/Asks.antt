@@ -20,7 +20,7 @@ use Rattle.dim_vm.specs.Own.{has_lock, IsYieldingOn}
 use Rattle.dim_vm.specs.Door.{Seen, MayAsk, IsReplyTo, IsAcquired, Runs, WasWoken, told}
 use Rattle.dim_vm.specs.Configuration.{Configuration, next_of, is_ended}
 use Rattle.dim_vm.specs.Fitting.{FitsMachine, MayEnd, IsWanting}
-use Rattle.dim_vm.specs.Turns.{request_of, attempt_of, Faces, IsFree, acquired}
+use Rattle.dim_vm.specs.Turns.{request_of, attempt_of, Faces, IsReady, acquired}
 use Rattle.dim_vm.proofs.Stands.{holds_is, runs_by, waits_by, yields_by, asking}
 
 module _ (p : Code) (c : Configuration) (z : Seen) where
@@ -58,7 +58,7 @@ module _ (p : Code) (c : Configuration) (z : Seen) where
   same_lock : (l m : Lid) (drops : Bool) → Faces p c z (step.Wants l drops) → IsWanting m (next_of p c) → m ≡ l
   same_lock l m drops f w = let x : Wants m w.0 ≡ Wants l (gone drops c.context) = sym w.1 ∙ f.shows.is in cc
 
-  free_to_ask : (l : Lid) (drops : Bool) (s : State) (woken : Type 0) → c.state ≡ s → Faces p c z (step.Wants l drops) → IsFree s z woken
+  free_to_ask : (l : Lid) (drops : Bool) (s : State) (woken : Type 0) → c.state ≡ s → Faces p c z (step.Wants l drops) → IsReady s z woken
       → Runs z ⊎ (WasWoken z × YieldsOn z.thread.0 l (stack_of p c.context.frames) (past z.own))
   free_to_ask l drops Running woken e f free = inl (runs_in f.fits f.thread e)
   free_to_ask l drops (Yields m) woken e f free =
@@ -68,11 +68,11 @@ module _ (p : Code) (c : Configuration) (z : Seen) where
   free_to_ask l drops (Waits m) woken e f free = absurd free
   free_to_ask l drops (Ended why) woken e f free = absurd free
 
-  pub may_wish : (l : Lid) (drops : Bool) (woken : Type 0) → Faces p c z (step.Wants l drops) → IsFree c.state z woken → MayAsk z (request_of p c l)
+  pub may_wish : (l : Lid) (drops : Bool) (woken : Type 0) → Faces p c z (step.Wants l drops) → IsReady c.state z woken → MayAsk z (request_of p c l)
   may_wish l drops woken f free =
       (omega (arith, f.locks, f.found.in_range), has_is l f.fits f.thread f.found.low ∙ f.found.held_is, free_to_ask l drops c.state woken refl f free)
 
-  pub may_spend : (s : State) (woken : Type 0) → c.state ≡ s → FitsMachine p c z.own → z.thread ≡ c.thread → IsFree s z woken → MayAsk z (cmd.End Spent)
+  pub may_spend : (s : State) (woken : Type 0) → c.state ≡ s → FitsMachine p c z.own → z.thread ≡ c.thread → IsReady s z woken → MayAsk z (cmd.End Spent)
   may_spend Running woken e f t free = inl (runs_in f t e)
   may_spend (Yields l) woken e f t free = inr free.0
   may_spend (Waits l) woken e f t free = absurd free
@@ -93,7 +93,7 @@ module _ (p : Code) (c : Configuration) (z : Seen) where
 
   -- one that was told Woken yields
   pub woken_free : (s : State) (l : Lid) (woken : Type 0) → c.state ≡ s → FitsMachine p c z.own → z.thread ≡ c.thread → is_ended c.state ≡ false → c.state ≢ Running → IsReplyTo z (cmd.Acquire l) reply.Woken → woken
-      → IsFree s (told z (cmd.Acquire l) reply.Woken) woken
+      → IsReady s (told z (cmd.Acquire l) reply.Woken) woken
   woken_free Running l woken e f t going asks may w = absurd (asks e)
   woken_free (Yields m) l woken e f t going asks may w = (refl, w)
   woken_free (Waits m) l woken e f t going asks may w =
@@ -119,14 +119,14 @@ module _ (p : Code) (c : Configuration) (z : Seen) where
   may_end_empty f t going none = inl (runs_in f t (empty_runs c.state refl f going none))
 
   -- the End of a thread that lacks a unit for a request
-  pub may_end : (s : State) (woken : Type 0) → IsFree s z woken → MayEnd woken s
+  pub may_end : (s : State) (woken : Type 0) → IsReady s z woken → MayEnd woken s
   may_end Running woken free = tt
   may_end (Yields l) woken free = free.1
   may_end (Waits l) woken free = absurd free
   may_end (Ended why) woken free = absurd free
 
 -- one that is free stays so where what is woken stays so
-pub free_more : (s : State) (z : Seen) (A B : Type 0) → (A → B) → IsFree s z A → IsFree s z B
+pub free_more : (s : State) (z : Seen) (A B : Type 0) → (A → B) → IsReady s z A → IsReady s z B
 free_more Running z A B f free = tt
 free_more (Yields l) z A B f free = (free.0, f free.1)
 free_more (Waits l) z A B f free = free
@@ -134,6 +134,6 @@ free_more (Ended why) z A B f free = free
 
 -- the same after the poll
 pub poll_free : (p : Code) (c c1 : Configuration) (z z1 : Seen) (woken : Type 0) (l : Lid) (drops : Bool) → FitsMachine p c z.own → z.thread ≡ c.thread → is_ended c.state ≡ false → c.state ≢ Running
-    → IsReplyTo z (cmd.Acquire l) reply.Woken → c1 ≡ acquired l drops c reply.Woken → z1 ≡ told z (cmd.Acquire l) reply.Woken → woken → IsFree c1.state z1 woken
+    → IsReplyTo z (cmd.Acquire l) reply.Woken → c1 ≡ acquired l drops c reply.Woken → z1 ≡ told z (cmd.Acquire l) reply.Woken → woken → IsReady c1.state z1 woken
 poll_free p c c1 z z1 woken l drops f t going asks may at seen w =
-    subst (λ (x : Configuration). IsFree x.state z1 woken) (sym at) (subst (λ y. IsFree c.state y woken) (sym seen) (woken_free p c z c.state l woken refl f t going asks may w))
+    subst (λ (x : Configuration). IsReady x.state z1 woken) (sym at) (subst (λ y. IsReady c.state y woken) (sym seen) (woken_free p c z c.state l woken refl f t going asks may w))

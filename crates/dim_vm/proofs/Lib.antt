@@ -14,3 +14,5 @@ pub mod OwnWalks
 mod OwnHolds
 mod OwnStacks
 mod NamedFrames
+mod Courses
+mod AtPlaces

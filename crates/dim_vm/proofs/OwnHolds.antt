@@ -10,7 +10,7 @@ use Rattle.dim_rag.specs.declared.entry.Mode.TheVariants as modes
 use Rattle.dim_rag.specs.History.{Wish, is_word_of, is_about, is_for, last, latest_wish, latest_grant, grant, edge_of_wish, hold, hold_by, mode, mode_by, mode_of_wish}
 use Rattle.dim_rag.specs.Fits.{Fits, IsYielding, IsAllowedOn}
 use Rattle.dim_vm.specs.Own.{has_lock, is_taking}
-use Rattle.dim_vm.specs.Laws.{wanted}
+use Rattle.dim_vm.specs.Laws.{without_place}
 use Rattle.dim_vm.specs.Walks.{own_of}
 use Rattle.dim_vm.proofs.OwnModes.{mode_word, mode_other, wish_is}
 
@@ -169,17 +169,17 @@ module _ (t : Tid) (l : ℕ) where
 
 module _ (t : Tid) where
   -- an entry that is no Yield changes no wish
-  kept_wish : (b : Bool) (e : Entry) (own h : List Entry) → latest_wish t.0 (e ∷ own) ≡ latest_wish t.0 own → option_map wanted (latest_wish t.0 own) ≡ option_map wanted (latest_wish t.0 h)
-      → option_map wanted (latest_wish t.0 (if b then e ∷ own else own)) ≡ option_map wanted (latest_wish t.0 h)
-  kept_wish true e own h kept before = ap (option_map wanted) kept ∙ before
+  kept_wish : (b : Bool) (e : Entry) (own h : List Entry) → latest_wish t.0 (e ∷ own) ≡ latest_wish t.0 own → option_map without_place (latest_wish t.0 own) ≡ option_map without_place (latest_wish t.0 h)
+      → option_map without_place (latest_wish t.0 (if b then e ∷ own else own)) ≡ option_map without_place (latest_wish t.0 h)
+  kept_wish true e own h kept before = ap (option_map without_place) kept ∙ before
   kept_wish false e own h kept before = before
 
-  new_wish : (b : Bool) (l : Lid) (s : List Frame) (births : List ℕ) (u : Tid) (sig : ℕ) (own h : List Entry) → (u.0 == t.0) ≡ b → option_map wanted (latest_wish t.0 own) ≡ option_map wanted (latest_wish t.0 h)
-      → option_map wanted (latest_wish t.0 (if b then Yield u l s sig births ∷ own else own)) ≡ option_map wanted (if b then Some record { lock = l; stack = s; births = births; place = length h } else latest_wish t.0 h)
-  new_wish true l s births u sig own h e before = ap (λ (b : Bool). option_map wanted (if b then Some record { lock = l; stack = s; births = births; place = length own } else latest_wish t.0 own)) e
+  new_wish : (b : Bool) (l : Lid) (s : List Frame) (births : List ℕ) (u : Tid) (sig : ℕ) (own h : List Entry) → (u.0 == t.0) ≡ b → option_map without_place (latest_wish t.0 own) ≡ option_map without_place (latest_wish t.0 h)
+      → option_map without_place (latest_wish t.0 (if b then Yield u l s sig births ∷ own else own)) ≡ option_map without_place (if b then Some record { lock = l; stack = s; births = births; place = length h } else latest_wish t.0 h)
+  new_wish true l s births u sig own h e before = ap (λ (b : Bool). option_map without_place (if b then Some record { lock = l; stack = s; births = births; place = length own } else latest_wish t.0 own)) e
   new_wish false l s births u sig own h e before = before
 
-  pub own_wish : (h : List Entry) → option_map wanted (latest_wish t.0 (own_of t h)) ≡ option_map wanted (latest_wish t.0 h)
+  pub own_wish : (h : List Entry) → option_map without_place (latest_wish t.0 (own_of t h)) ≡ option_map without_place (latest_wish t.0 h)
   own_wish [] = refl
   own_wish (Yield u l s sig births ∷ h) = new_wish (u.0 == t.0) l s births u sig (own_of t h) h refl (own_wish h)
   own_wish (Go u l s ∷ h) = kept_wish (u.0 == t.0) (Go u l s) (own_of t h) h refl (own_wish h)

@@ -17,20 +17,20 @@ use Rattle.dim_vm.specs.declared.state.Turn.TheVariants as turn
 use Rattle.dim_vm.specs.Frames.{stack_of}
 use Rattle.dim_vm.specs.Table.{Plain, Ends, Wants}
 use Rattle.dim_vm.specs.Steps.{told_by}
-use Rattle.dim_vm.specs.Door.{Seen, IsReplyTo, told, grown, IsStop, WasStopped}
+use Rattle.dim_vm.specs.Door.{Seen, IsReplyTo, told, grown, IsStop, GoesOn, WasStopped}
 use Rattle.dim_vm.specs.Configuration.{Configuration, next_of, moved, moved_by, is_ended}
 use Rattle.dim_vm.specs.Fitting.{FitsEntry, FitsOwn, FitsNext, FitsMachine, MayEnd}
 use Rattle.dim_vm.specs.Moves.{MakesPlain, is_end}
 use Rattle.dim_vm.specs.Slice.{place}
-use Rattle.dim_vm.specs.Turns.{request_of, attempt_of, Faces, Turned, StopsIf, IsFree, IsStep, asked, acquired, passed, tried}
+use Rattle.dim_vm.specs.Turns.{request_of, attempt_of, Faces, Turned, StopsIf, IsReady, IsStep, asked, acquired, behind_lock, tried}
 use Rattle.dim_vm.proofs.Leads.{fits_entry, fits_plain, fits_own, moved_thread, moved_fuel}
 use Rattle.dim_vm.proofs.Asks.{runs, may_end}
 use Rattle.dim_vm.proofs.Counts.{raised_more, raised_rose, rose_from}
 
 module _ (p : Code) (c : Configuration) (z : Seen) (stopped woken : Type 0) where
-  turned_entry : (r : Reply) (e : Entry) → FitsMachine p c z.own → z.thread ≡ c.thread → FitsOwn p c e → is_end e ≡ false
+  turned_entry : (r : Reply) (e : Entry) → FitsMachine p c z.own → z.thread ≡ c.thread → FitsOwn p c e → is_end e ≡ false → GoesOn (Some r)
       → Turned p c z turn.Moved (moved p c e) (grown z r (Some e)) stopped woken
-  turned_entry r e f t m no_end = record {
+  turned_entry r e f t m no_end on = record {
     turn_is = inr (record { entry = e; fits = m; no_end = no_end; after = refl });
     fits = fits_entry p c z.own e f m;
     fuel = moved_fuel c e (next_of p c);
@@ -39,14 +39,15 @@ module _ (p : Code) (c : Configuration) (z : Seen) (stopped woken : Type 0) wher
     locks = refl;
     left = omega arith;
     asks = raised_more z.asks;
+    goes_on = on;
     stop = tt;
   }
 
   -- the machine has made an entry
-  turned_by : (c' : Configuration) (z' : Seen) (r : Reply) (e : Entry) → FitsMachine p c z.own → z.thread ≡ c.thread → FitsOwn p c e → is_end e ≡ false
+  turned_by : (c' : Configuration) (z' : Seen) (r : Reply) (e : Entry) → FitsMachine p c z.own → z.thread ≡ c.thread → FitsOwn p c e → is_end e ≡ false → GoesOn (Some r)
       → c' ≡ moved p c e → z' ≡ grown z r (Some e) → Turned p c z turn.Moved c' z' stopped woken
-  turned_by c' z' r e f t m no_end at seen =
-      subst (λ x. Turned p c z turn.Moved x z' stopped woken) (sym at) (subst (λ y. Turned p c z turn.Moved (moved p c e) y stopped woken) (sym seen) (turned_entry r e f t m no_end))
+  turned_by c' z' r e f t m no_end on at seen =
+      subst (λ x. Turned p c z turn.Moved x z' stopped woken) (sym at) (subst (λ y. Turned p c z turn.Moved (moved p c e) y stopped woken) (sym seen) (turned_entry r e f t m no_end on))
 
   turned_end : (why : Why) → FitsMachine p c z.own → z.thread ≡ c.thread → FitsEntry p (MayEnd woken c.state) c (entry.End c.thread why)
       → Turned p c z turn.Over (record c { state = Ended why }) (told z (cmd.End why) reply.Ended) stopped woken
@@ -59,6 +60,7 @@ module _ (p : Code) (c : Configuration) (z : Seen) (stopped woken : Type 0) wher
     locks = refl;
     left = omega arith;
     asks = raised_more z.asks;
+    goes_on = tt;
     stop = tt;
   }
 
@@ -68,39 +70,40 @@ module _ (p : Code) (c : Configuration) (z : Seen) (stopped woken : Type 0) wher
   turned_over c' z' why f t m at seen =
       subst (λ x. Turned p c z turn.Over x z' stopped woken) (sym at) (subst (λ y. Turned p c z turn.Over (record c { state = Ended why }) y stopped woken) (sym seen) (turned_end why f t m))
 
-  pub turned_free : (l : Lid) (drops : Bool) (c' : Configuration) (z' : Seen) → Faces p c z (step.Frees l drops) → c' ≡ passed l false drops c → z' ≡ told z (cmd.Release l) reply.Freed → Turned p c z turn.Moved c' z' stopped woken
+  pub turned_free : (l : Lid) (drops : Bool) (c' : Configuration) (z' : Seen) → Faces p c z (step.Frees l drops) → c' ≡ behind_lock l false drops c → z' ≡ told z (cmd.Release l) reply.Freed → Turned p c z turn.Moved c' z' stopped woken
   turned_free l drops c' z' f at seen =
       turned_by c' z' reply.Freed (entry.Free z.thread l) f.fits f.thread
       (record { going = f.going; by = ap Some f.thread; next = (f.units, (_, f.shows.is)) })
       refl
+      tt
       (at ∙ ap (λ n. moved_by c (entry.Free z.thread l) n) (sym f.shows.is))
       seen
 
-  tries : (l : Lid) (e : Entry) (c' : Configuration) (z' : Seen) (r : Reply) → Faces p c z (step.Tries l) → FitsOwn p c e → is_end e ≡ false
+  tries : (l : Lid) (e : Entry) (c' : Configuration) (z' : Seen) (r : Reply) → Faces p c z (step.Tries l) → FitsOwn p c e → is_end e ≡ false → GoesOn (Some r)
       → c' ≡ moved_by c e (told_by c.context (step.Tries l) c.context) → z' ≡ grown z r (Some e) → Turned p c z turn.Moved c' z' stopped woken
-  tries l e c' z' r f m no_end at seen = turned_by c' z' r e f.fits f.thread m no_end (at ∙ ap (λ n. moved_by c e n) (sym f.shows.is)) seen
+  tries l e c' z' r f m no_end on at seen = turned_by c' z' r e f.fits f.thread m no_end on (at ∙ ap (λ n. moved_by c e n) (sym f.shows.is)) seen
 
   pub turned_try : (l : Lid) (c' : Configuration) (z' : Seen) (r : Reply) → Faces p c z (step.Tries l) → IsReplyTo z (attempt_of p c l) r
       → c' ≡ tried l c r → z' ≡ told z (attempt_of p c l) r → Turned p c z turn.Moved c' z' stopped woken
   turned_try l c' z' reply.Took f may at seen =
-      tries l (entry.Took z.thread l (stack_of p c.context.frames)) c' z' reply.Took f (record { going = f.going; by = ap Some f.thread; next = (f.units, refl, (_, _, f.shows.is)) }) refl at seen
+      tries l (entry.Took z.thread l (stack_of p c.context.frames)) c' z' reply.Took f (record { going = f.going; by = ap Some f.thread; next = (f.units, refl, (_, _, f.shows.is)) }) refl tt at seen
   turned_try l c' z' (reply.MissBusy holder) f may at seen =
-      tries l (entry.Miss z.thread l (stack_of p c.context.frames) (miss.Busy holder)) c' z' (reply.MissBusy holder) f (record { going = f.going; by = ap Some f.thread; next = (f.units, refl, (_, _, f.shows.is)) }) refl at seen
+      tries l (entry.Miss z.thread l (stack_of p c.context.frames) (miss.Busy holder)) c' z' (reply.MissBusy holder) f (record { going = f.going; by = ap Some f.thread; next = (f.units, refl, (_, _, f.shows.is)) }) refl tt at seen
   turned_try l c' z' (reply.MissAvoid named) f may at seen =
-      tries l (entry.Miss z.thread l (stack_of p c.context.frames) (miss.Avoid named)) c' z' (reply.MissAvoid named) f (record { going = f.going; by = ap Some f.thread; next = (f.units, refl, (_, _, f.shows.is)) }) refl at seen
+      tries l (entry.Miss z.thread l (stack_of p c.context.frames) (miss.Avoid named)) c' z' (reply.MissAvoid named) f (record { going = f.going; by = ap Some f.thread; next = (f.units, refl, (_, _, f.shows.is)) }) refl tt at seen
   turned_try l c' z' _ f may at seen = absurd may
 
   pub turned_wish : (l : Lid) (drops : Bool) (c' : Configuration) (z' : Seen) (r : Reply) → Faces p c z (step.Wants l drops) → 2 ≤ c.units → IsReplyTo z (request_of p c l) r
       → c' ≡ asked l c r → z' ≡ told z (request_of p c l) r → Turned p c z turn.Moved c' z' stopped woken
   turned_wish l drops c' z' reply.Go f two may at seen =
       turned_by c' z' reply.Go (entry.Go z.thread l (stack_of p c.context.frames)) f.fits f.thread
-      (record { going = f.going; by = ap Some f.thread; next = (two, refl, (_, f.shows.is)) }) refl at seen
+      (record { going = f.going; by = ap Some f.thread; next = (two, refl, (_, f.shows.is)) }) refl tt at seen
   turned_wish l drops c' z' (reply.Yield named) f two may at seen =
       turned_by c' z' (reply.Yield named) (entry.Yield z.thread l (stack_of p c.context.frames) named.sig named.births) f.fits f.thread
-      (record { going = f.going; by = ap Some f.thread; next = (two, refl, (_, f.shows.is)) }) refl at seen
+      (record { going = f.going; by = ap Some f.thread; next = (two, refl, (_, f.shows.is)) }) refl tt at seen
   turned_wish l drops c' z' _ f two may at seen = absurd may
 
-  pub turned_spent : (l : Lid) (drops : Bool) (c' : Configuration) (z' : Seen) → Faces p c z (step.Wants l drops) → IsFree c.state z woken → c.units < 2
+  pub turned_spent : (l : Lid) (drops : Bool) (c' : Configuration) (z' : Seen) → Faces p c z (step.Wants l drops) → IsReady c.state z woken → c.units < 2
       → c' ≡ record c { state = Ended Spent } → z' ≡ told z (cmd.End Spent) reply.Ended → Turned p c z turn.Over c' z' stopped woken
   turned_spent l drops c' z' f free few at seen =
       turned_over c' z' Spent f.fits f.thread
@@ -113,6 +116,7 @@ module _ (p : Code) (c : Configuration) (z : Seen) (stopped woken : Type 0) wher
       turned_by c' z' reply.Got (entry.Got z.thread l) f.fits f.thread
       (record { going = f.going; by = ap Some f.thread; next = (f.units, (_, f.shows.is)) })
       refl
+      tt
       (at ∙ ap (λ n. moved_by c (entry.Got z.thread l) n) (sym f.shows.is))
       seen
 
@@ -133,8 +137,8 @@ module _ (p : Code) (c : Configuration) (z : Seen) (stopped woken : Type 0) wher
   turned_empty c' z' f t going none at seen = turned_over c' z' Spent f t (record { going = going; by = refl; next = inl none }) at seen
 
   -- a plain instruction
-  pub turned_plain : (c' : Configuration) → FitsMachine p c z.own → z.thread ≡ c.thread → is_ended c.state ≡ false → 1 ≤ c.units → IsStep p c step.Plain c' → Turned p c z turn.Moved c' z stopped woken
-  turned_plain c' f t going units s =
+  pub turned_plain : (c' : Configuration) → FitsMachine p c z.own → z.thread ≡ c.thread → is_ended c.state ≡ false → 1 ≤ c.units → GoesOn z.last → IsStep p c step.Plain c' → Turned p c z turn.Moved c' z stopped woken
+  turned_plain c' f t going units on s =
       let running = runs p c z c.state refl f going (λ m w. let x : Plain c'.context ≡ Wants m w.0 = sym s.shows.is ∙ w.1 in cc) in
       let makes : MakesPlain p (place c z) (place c' z) = record { context = c'.context; running = running; paid = units; next = s.shows.is; after = ap (λ x. place x z) s.rest } in
       record {
@@ -146,6 +150,7 @@ module _ (p : Code) (c : Configuration) (z : Seen) (stopped woken : Type 0) wher
         locks = refl;
         left = omega arith;
         asks = omega arith;
+        goes_on = on;
         stop = tt;
       }
 
@@ -162,6 +167,7 @@ module _ (p : Code) (c : Configuration) (z : Seen) (stopped woken : Type 0) wher
         locks = refl;
         left = omega arith;
         asks = raised_more z.asks;
+        goes_on = tt;
         stop = (record { asked = raised_rose z.asks; by = tt }, here);
       }))
   turned_stopped l drops c' z' (reply.Still cause) f t stop here at seen =
@@ -174,6 +180,7 @@ module _ (p : Code) (c : Configuration) (z : Seen) (stopped woken : Type 0) wher
         locks = refl;
         left = omega arith;
         asks = raised_more z.asks;
+        goes_on = tt;
         stop = (record { asked = raised_rose z.asks; by = tt }, here);
       }))
   turned_stopped l drops c' z' _ f t stop here at seen = absurd stop
@@ -196,6 +203,7 @@ turned_after p c z stopped woken l r c' z' h =
       locks = h.locks;
       left = h.left;
       asks = omega (arith, raised_more z.asks, h.asks);
+      goes_on = h.goes_on;
       stop = stops_from p c (told z (cmd.Acquire l) reply.Woken) stopped woken z z' r (raised_more z.asks) h.stop;
     }
 

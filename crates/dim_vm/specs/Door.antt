@@ -111,6 +111,12 @@ abbrev pub IsStopBy : Option Reply → Type 0
 IsStopBy None = ⊥
 IsStopBy (Some r) = IsStop r
 
+-- no reply so far was one at which a slice stops: only then a machine may ask
+abbrev pub GoesOn : Option Reply → Type 0
+GoesOn (Some (reply.Busy holder)) = ⊥
+GoesOn (Some (reply.Still cause)) = ⊥
+GoesOn _ = ⊤
+
 -- between z and z' the door was asked, and the last reply is one at which a slice stops
 pub record WasStopped (z z' : Seen) : Type 0 where
   pub asked : Rose z.asks z'.asks

@@ -31,14 +31,14 @@ SameButBroken (modes.Ended place) (modes.Ended there) = ⊤
 SameButBroken _ _ = ⊥
 
 -- a wish without its place
-abbrev pub wanted : Wish → Lid × List Frame × List ℕ
-wanted w = (w.lock, w.stack, w.births)
+abbrev pub without_place : Wish → Lid × List Frame × List ℕ
+without_place w = (w.lock, w.stack, w.births)
 
 -- what a thread's own entries say in a history that fits: its mode, what it holds, and what it wants
 pub record OwnHistoryLaw : Type 0 where
   pub mode_is : (t : Tid) (h : List Entry) → Fits h → SameButBroken (mode t.0 (own_of t h)) (mode t.0 h)
   pub holds : (t : Tid) (l : ℕ) (h : List Entry) → Fits h → has_lock t.0 l (own_of t h) ≡ is_some (hold t.0 l h)
-  pub wish : (t : Tid) (h : List Entry) → option_map wanted (latest_wish t.0 (own_of t h)) ≡ option_map wanted (latest_wish t.0 h)
+  pub wish : (t : Tid) (h : List Entry) → option_map without_place (latest_wish t.0 (own_of t h)) ≡ option_map without_place (latest_wish t.0 h)
 
 -- A history that fits is a walk exactly where each thread's own entries are one, and a thread that yields by them ends as spent only where it is woken
 pub record OwnWalksLaw : Type 0 where

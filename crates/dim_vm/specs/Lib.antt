@@ -14,4 +14,5 @@ pub mod Turns
 pub mod Walks
 pub mod Stacks
 pub mod Laws
+pub mod Places
 pub mod Following

@@ -45,14 +45,14 @@ IsAfter fs (Ok u) r fs' = (r ≡ Ok step.Plain) × (fs' ≡ advanced fs)
 IsAfter fs (Err k) r fs' = (r ≡ Err k) × (fs' ≡ fs)
 
 -- what an instruction about a lock shows, by what is held
-abbrev pub wanted : List Bool → Lid → Bool → Result Step Trap
-wanted holds l drops = if is_held holds l.0 then Err Relock else Ok (step.Wants l drops)
+abbrev pub lock_shows : List Bool → Lid → Bool → Result Step Trap
+lock_shows holds l drops = if is_held holds l.0 then Err Relock else Ok (step.Wants l drops)
 
-abbrev pub freed : List Bool → Lid → Bool → Result Step Trap
-freed holds l drops = if is_held holds l.0 then Ok (step.Frees l drops) else Err NotOwner
+abbrev pub unlock_shows : List Bool → Lid → Bool → Result Step Trap
+unlock_shows holds l drops = if is_held holds l.0 then Ok (step.Frees l drops) else Err NotOwner
 
-abbrev pub tried : List Bool → Lid → List ℤ → Result Step Trap
-tried holds l ns = if is_held holds l.0 then Err Relock else (if nat_lt (length ns) 256 then Ok (step.Tries l) else Err Over)
+abbrev pub try_shows : List Bool → Lid → List ℤ → Result Step Trap
+try_shows holds l ns = if is_held holds l.0 then Err Relock else (if nat_lt (length ns) 256 then Ok (step.Tries l) else Err Over)
 
 -- a lock that is next, where it is held or isn't
 pub record IsAtLock (p : Code) (holds : List Bool) (b : Context) (l : Lid) (held : Bool) : Type 0 where

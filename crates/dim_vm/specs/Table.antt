@@ -76,14 +76,14 @@ jump_if_zero k b = top b.operands >>= λ n. Ok (Plain (if is_zero n then jump k 
 abbrev pub return : Context → Next
 return b = if nat_lt 1 (length b.frames) then Plain (on (record b { frames = rest b.frames })) else Ends Done
 
-abbrev pub wanted : List Bool → Lid → Context → Result Next Trap
-wanted holds l after = if is_held holds l.0 then Err Relock else Ok (Wants l after)
+abbrev pub lock_next : List Bool → Lid → Context → Result Next Trap
+lock_next holds l after = if is_held holds l.0 then Err Relock else Ok (Wants l after)
 
-abbrev pub freed : List Bool → Lid → Context → Result Next Trap
-freed holds l after = if is_held holds l.0 then Ok (Frees l after) else Err NotOwner
+abbrev pub unlock_next : List Bool → Lid → Context → Result Next Trap
+unlock_next holds l after = if is_held holds l.0 then Ok (Frees l after) else Err NotOwner
 
-abbrev pub tried : List Bool → Lid → Context → Result Next Trap
-tried holds l b = if is_held holds l.0 then Err Relock else (if nat_lt (length b.operands) 256 then Ok (Tries l (on (pushed (pos 1) b)) (on (pushed (pos 0) b))) else Err Over)
+abbrev pub try_next : List Bool → Lid → Context → Result Next Trap
+try_next holds l b = if is_held holds l.0 then Err Relock else (if nat_lt (length b.operands) 256 then Ok (Tries l (on (pushed (pos 1) b)) (on (pushed (pos 0) b))) else Err Over)
 
 -- the row of an instruction
 abbrev pub row : Code → List Bool → Context → Op → Result Next Trap
@@ -101,11 +101,11 @@ row p holds b (op.GetL i) = get_local p i b
 row p holds b (op.PutL i) = put_local p i b
 row p holds b (op.Call f) = call f b
 row p holds b op.Ret = Ok (return b)
-row p holds b (op.Lock l) = wanted holds l (on b)
-row p holds b op.LockX = lock_operand (lock_count p) b.operands >>= λ l. wanted holds l (on (dropped b))
-row p holds b (op.Unlock l) = freed holds l (on b)
-row p holds b op.UnlockX = lock_operand (lock_count p) b.operands >>= λ l. freed holds l (on (dropped b))
-row p holds b (op.TryLock l) = tried holds l b
+row p holds b (op.Lock l) = lock_next holds l (on b)
+row p holds b op.LockX = lock_operand (lock_count p) b.operands >>= λ l. lock_next holds l (on (dropped b))
+row p holds b (op.Unlock l) = unlock_next holds l (on b)
+row p holds b op.UnlockX = lock_operand (lock_count p) b.operands >>= λ l. unlock_next holds l (on (dropped b))
+row p holds b (op.TryLock l) = try_next holds l b
 row p holds b op.Say = say b
 row p holds b op.Halt = Ok (Ends Done)
 

@@ -1,11 +1,11 @@
 //! The gate as one machine sees it.
 ghost use Rattle.std.specs.Prelude.{◌≡◌, ◌≤◌};
-ghost use Rattle.dim_vm.specs.Door.{Seen, MayAsk, IsReplyTo, told, IsStop};
+ghost use Rattle.dim_vm.specs.Door.{Seen, MayAsk, GoesOn, IsReplyTo, told, IsStop};
 ghost use Rattle.dim_rag.specs.declared.command.Reply.TheVariants as reply;
 
 use dim_rag::{Command, Reply};
 
-/// The gate as one machine sees it.
+/// The gate as one machine sees it in one slice. One that was told Busy or Still asks nothing more in that slice, and is given its door anew for the next.
 pub trait Door {
     /// The thread, the number of locks, the thread's own entries, the last reply, for how many entries there is room, and the count of asks.
     ghost seen: { Self → Seen };
@@ -22,6 +22,7 @@ pub trait Door {
     /// Asks the gate.
     fn ask(&mut self, cmd: Command) -> Reply
         requires room { 1 ≤ (seen self.old).left }
+        requires goes_on { GoesOn (seen self.old).last }
         requires may { MayAsk (seen self.old) cmd }
         ensures reply { IsReplyTo (seen self.old) cmd result }
         ensures seen { seen self.new ≡ told (seen self.old) cmd result }

@@ -16,7 +16,7 @@ mod tests;
 mod trap;
 
 pub use door::Door;
-pub use laws::{own_entries_law, own_history_law, own_walks_law, stacks_law};
+pub use laws::{own_entries_law, own_history_law, own_walks_law, stacks_law, walk_places_law};
 pub use machine::Machine;
 pub use state::{Slice, State};
 pub use trap::Trap;

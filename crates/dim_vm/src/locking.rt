@@ -2,7 +2,7 @@
 ghost use Rattle.std.specs.Prelude.{◌≡◌, ◌<◌, length, IfOk};
 ghost use Rattle.dim_asm.specs.Code.{lock_count};
 ghost use Rattle.dim_vm.specs.Operands as stack;
-ghost use Rattle.dim_vm.specs.Steps.{wanted, freed, tried};
+ghost use Rattle.dim_vm.specs.Steps.{lock_shows, try_shows, unlock_shows};
 
 use crate::operands::Operands;
 use crate::step::Step;
@@ -13,7 +13,7 @@ use dim_base::Lid;
 /// LOCK, and LOCKX where the lock was an operand, which drops then.
 pub fn want(holds: &[bool], l: Lid, drops: bool) -> Result<Step, Trap>
     requires { l.0 < length holds.now }
-    ensures { result ≡ wanted holds.now l drops }
+    ensures { result ≡ lock_shows holds.now l drops }
 {
     if holds[l.0 as usize] {
         return Err(Trap::Relock);
@@ -24,7 +24,7 @@ pub fn want(holds: &[bool], l: Lid, drops: bool) -> Result<Step, Trap>
 /// UNLOCK, and UNLOCKX where the lock was an operand, which drops then.
 pub fn free(holds: &[bool], l: Lid, drops: bool) -> Result<Step, Trap>
     requires { l.0 < length holds.now }
-    ensures { result ≡ freed holds.now l drops }
+    ensures { result ≡ unlock_shows holds.now l drops }
 {
     if !holds[l.0 as usize] {
         return Err(Trap::NotOwner);
@@ -35,7 +35,7 @@ pub fn free(holds: &[bool], l: Lid, drops: bool) -> Result<Step, Trap>
 /// TRYLOCK, which needs room for an operand.
 pub fn attempt(holds: &[bool], l: Lid, operands: &Operands) -> Result<Step, Trap>
     requires { l.0 < length holds.now }
-    ensures { result ≡ tried holds.now l operands.now }
+    ensures { result ≡ try_shows holds.now l operands.now }
 {
     if holds[l.0 as usize] {
         return Err(Trap::Relock);

@@ -143,6 +143,7 @@ fn second_slice_of(
     let mut door = Fake::new(alloc, Tid(0), program.locks(), 2 * q + 2, script)?;
     let first = machine.slice(program, &mut door, q);
     assert!(rt; first.moves <= q);
+    door.open();
     let second = machine.slice(program, &mut door, q);
     Ok(Outcome {
         moves: second.moves,

@@ -2,9 +2,10 @@
 ghost use Rattle.std.specs.Prelude.{◌≡◌, ◌≢◌, ◌≤◌, false};
 ghost use Rattle.dim_asm.specs.Code.{lock_count};
 ghost use Rattle.dim_vm.specs.Configuration.{is_ended};
+ghost use Rattle.dim_vm.specs.Door.{GoesOn};
 ghost use Rattle.dim_vm.specs.Fitting.{FitsMachine};
 ghost use Rattle.dim_vm.specs.Steps.{IsFound, told_by};
-ghost use Rattle.dim_vm.specs.Turns.{IsStep, Faces, Turned, IsFree};
+ghost use Rattle.dim_vm.specs.Turns.{IsStep, Faces, Turned, IsReady};
 
 use crate::door::Door;
 use crate::machine::Machine;
@@ -22,6 +23,7 @@ impl Machine {
     pub(super) fn turn<D: Door>(&mut self, program: &Program, door: &mut D) -> Turn
         requires room { 1 ≤ (D.seen door.old).left }
         requires fits { FitsMachine program.now self.old (D.seen door.old).own }
+        requires goes_on { GoesOn (D.seen door.old).last }
         requires going { is_ended self.old.state ≡ false }
         requires thread { (D.seen door.old).thread ≡ self.old.thread }
         requires locks { (D.seen door.old).locks ≡ lock_count program.now }
@@ -61,7 +63,7 @@ impl Machine {
     fn want<D: Door>(&mut self, program: &Program, door: &mut D, l: Lid, drops: bool) -> Turn
         requires room { 1 ≤ (D.seen door.old).left }
         requires faces { Faces program.now self.old (D.seen door.old) (Step.Wants l drops) }
-        requires free { IsFree self.old.state (D.seen door.old) (D.woken door.old) }
+        requires free { IsReady self.old.state (D.seen door.old) (D.woken door.old) }
         ensures turned { Turned program.now self.old (D.seen door.old) result self.new (D.seen door.new) (D.stopped door.new) (D.woken door.new) }
         ensures going { result ≢ Turn.Stopped }
         ensures reaches { D.reaches door.old door.new }

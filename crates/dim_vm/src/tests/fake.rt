@@ -138,6 +138,13 @@ impl Fake {
         })
     }
 
+    /// Opens the door anew for a slice.
+    pub fn open(&mut self)
+        ensures { self.new ≡ record self.old { last = None } }
+    {
+        self.last = None;
+    }
+
     /// The entries so far.
     pub fn entries(&self) -> &[Entry] {
         &self.own

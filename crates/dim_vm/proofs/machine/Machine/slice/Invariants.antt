@@ -1,4 +1,5 @@
 use Rattle.std.proofs.Common.{◌≡◌, ◌≤◌, ◌+◌}
+use Rattle.dim_vm.specs.Door.{GoesOn}
 use Rattle.dim_vm.specs.Fitting.{FitsMachine}
 use Rattle.dim_vm.specs.Moves.{Moves}
 use Rattle.dim_vm.specs.Slice.{place}
@@ -14,5 +15,6 @@ invariant-loop-moves g l = record {
   locks : (g.D.Door.seen l.door).locks ≡ (g.D.Door.seen l.fn.door).locks;
   left : (g.D.Door.seen l.fn.door).left ≤ (g.D.Door.seen l.door).left + l.moves;
   asks : (g.D.Door.seen l.fn.door).asks ≤ (g.D.Door.seen l.door).asks;
+  goes_on : GoesOn (g.D.Door.seen l.door).last;
   reaches : g.D.Door.reaches l.fn.door l.door;
 }

@@ -1,0 +1,48 @@
+//! The gate and the machines at the start.
+ghost use Rattle.std.specs.Prelude.{◌≡◌, ◌≤◌, length, None, IfOk};
+ghost use Rattle.dim_asm.specs.Code.{thread_count};
+ghost use Rattle.dim_execution.specs.Start.{first_gate, gate_of, starts};
+
+use dim_asm::Program;
+use dim_base::{OutOfMemory, Tid};
+use dim_gate::GateState;
+use dim_signature::Catalogue;
+use dim_vm::Machine;
+use std::alloc::Global;
+
+/// At most so many signatures are learnt.
+const LEARNS: u32 = 16;
+
+/// The gate of a program at its start, for its threads and its locks: its history is empty, it knows these signatures, of which there are at
+/// most 4,080, and has room to learn 16 more, each of this depth, which is from 1 to 32.
+pub fn new_gate(
+    alloc: Global,
+    program: &Program,
+    loaded: Catalogue,
+    depth: u8,
+) -> Result<GateState, OutOfMemory>
+    requires low { 1 ≤ depth }
+    requires high { depth ≤ 32 }
+    requires few { length loaded.sigs ≤ 4080 }
+    ensures { IfOk result (λ gate. gate ≡ first_gate None (gate_of program.now loaded.sigs depth)) }
+{
+    GateState::new(
+        alloc,
+        program.threads(),
+        program.locks(),
+        loaded,
+        depth,
+        LEARNS,
+    )
+}
+
+/// The machine of each thread at its start, with so much fuel.
+pub fn machines_of(alloc: Global, program: &Program, fuel: u32) -> Result<Vec<Machine>, OutOfMemory>
+    ensures { IfOk result (λ machines. machines.items ≡ starts program.now fuel (thread_count program.now)) }
+{
+    let mut machines = Vec::new(alloc);
+    for t in 0..program.threads() {
+        machines.push(Machine::new(program, Tid(t), fuel))?;
+    }
+    Ok(machines)
+}
