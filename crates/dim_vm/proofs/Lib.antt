@@ -1,6 +1,5 @@
 mod Tops
 mod Callers
-mod Counts
 pub mod Leads
 mod Stacks
 mod Known

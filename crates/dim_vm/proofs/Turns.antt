@@ -17,7 +17,7 @@ use Rattle.dim_vm.specs.declared.state.Turn.TheVariants as turn
 use Rattle.dim_vm.specs.Frames.{stack_of}
 use Rattle.dim_vm.specs.Table.{Plain, Ends, Wants}
 use Rattle.dim_vm.specs.Steps.{told_by}
-use Rattle.dim_vm.specs.Door.{Seen, IsReplyTo, told, grown, IsStop, GoesOn, WasStopped}
+use Rattle.dim_vm.specs.Door.{Seen, IsReplyTo, told, grown, IsStop, stops_after, raised, WasStopped}
 use Rattle.dim_vm.specs.Configuration.{Configuration, next_of, moved, moved_by, is_ended}
 use Rattle.dim_vm.specs.Fitting.{FitsEntry, FitsOwn, FitsNext, FitsMachine, MayEnd}
 use Rattle.dim_vm.specs.Moves.{MakesPlain, is_end}
@@ -25,10 +25,9 @@ use Rattle.dim_vm.specs.Slice.{place}
 use Rattle.dim_vm.specs.Turns.{request_of, attempt_of, Faces, Turned, StopsIf, IsReady, IsStep, asked, acquired, behind_lock, tried}
 use Rattle.dim_vm.proofs.Leads.{fits_entry, fits_plain, fits_own, moved_thread, moved_fuel}
 use Rattle.dim_vm.proofs.Asks.{runs, may_end}
-use Rattle.dim_vm.proofs.Counts.{raised_more, raised_rose, rose_from}
 
 module _ (p : Code) (c : Configuration) (z : Seen) (stopped woken : Type 0) where
-  turned_entry : (r : Reply) (e : Entry) → FitsMachine p c z.own → z.thread ≡ c.thread → FitsOwn p c e → is_end e ≡ false → GoesOn (Some r)
+  turned_entry : (r : Reply) (e : Entry) → FitsMachine p c z.own → z.thread ≡ c.thread → FitsOwn p c e → is_end e ≡ false → stops_after r z.stops ≡ z.stops
       → Turned p c z turn.Moved (moved p c e) (grown z r (Some e)) stopped woken
   turned_entry r e f t m no_end on = record {
     turn_is = inr (record { entry = e; fits = m; no_end = no_end; after = refl });
@@ -38,13 +37,12 @@ module _ (p : Code) (c : Configuration) (z : Seen) (stopped woken : Type 0) wher
     same = refl;
     locks = refl;
     left = omega arith;
-    asks = raised_more z.asks;
-    goes_on = on;
+    stops = on;
     stop = tt;
   }
 
   -- the machine has made an entry
-  turned_by : (c' : Configuration) (z' : Seen) (r : Reply) (e : Entry) → FitsMachine p c z.own → z.thread ≡ c.thread → FitsOwn p c e → is_end e ≡ false → GoesOn (Some r)
+  turned_by : (c' : Configuration) (z' : Seen) (r : Reply) (e : Entry) → FitsMachine p c z.own → z.thread ≡ c.thread → FitsOwn p c e → is_end e ≡ false → stops_after r z.stops ≡ z.stops
       → c' ≡ moved p c e → z' ≡ grown z r (Some e) → Turned p c z turn.Moved c' z' stopped woken
   turned_by c' z' r e f t m no_end on at seen =
       subst (λ x. Turned p c z turn.Moved x z' stopped woken) (sym at) (subst (λ y. Turned p c z turn.Moved (moved p c e) y stopped woken) (sym seen) (turned_entry r e f t m no_end on))
@@ -59,8 +57,7 @@ module _ (p : Code) (c : Configuration) (z : Seen) (stopped woken : Type 0) wher
     same = refl;
     locks = refl;
     left = omega arith;
-    asks = raised_more z.asks;
-    goes_on = tt;
+    stops = refl;
     stop = tt;
   }
 
@@ -75,32 +72,32 @@ module _ (p : Code) (c : Configuration) (z : Seen) (stopped woken : Type 0) wher
       turned_by c' z' reply.Freed (entry.Free z.thread l) f.fits f.thread
       (record { going = f.going; by = ap Some f.thread; next = (f.units, (_, f.shows.is)) })
       refl
-      tt
+      refl
       (at ∙ ap (λ n. moved_by c (entry.Free z.thread l) n) (sym f.shows.is))
       seen
 
-  tries : (l : Lid) (e : Entry) (c' : Configuration) (z' : Seen) (r : Reply) → Faces p c z (step.Tries l) → FitsOwn p c e → is_end e ≡ false → GoesOn (Some r)
+  tries : (l : Lid) (e : Entry) (c' : Configuration) (z' : Seen) (r : Reply) → Faces p c z (step.Tries l) → FitsOwn p c e → is_end e ≡ false → stops_after r z.stops ≡ z.stops
       → c' ≡ moved_by c e (told_by c.context (step.Tries l) c.context) → z' ≡ grown z r (Some e) → Turned p c z turn.Moved c' z' stopped woken
   tries l e c' z' r f m no_end on at seen = turned_by c' z' r e f.fits f.thread m no_end on (at ∙ ap (λ n. moved_by c e n) (sym f.shows.is)) seen
 
   pub turned_try : (l : Lid) (c' : Configuration) (z' : Seen) (r : Reply) → Faces p c z (step.Tries l) → IsReplyTo z (attempt_of p c l) r
       → c' ≡ tried l c r → z' ≡ told z (attempt_of p c l) r → Turned p c z turn.Moved c' z' stopped woken
   turned_try l c' z' reply.Took f may at seen =
-      tries l (entry.Took z.thread l (stack_of p c.context.frames)) c' z' reply.Took f (record { going = f.going; by = ap Some f.thread; next = (f.units, refl, (_, _, f.shows.is)) }) refl tt at seen
+      tries l (entry.Took z.thread l (stack_of p c.context.frames)) c' z' reply.Took f (record { going = f.going; by = ap Some f.thread; next = (f.units, refl, (_, _, f.shows.is)) }) refl refl at seen
   turned_try l c' z' (reply.MissBusy holder) f may at seen =
-      tries l (entry.Miss z.thread l (stack_of p c.context.frames) (miss.Busy holder)) c' z' (reply.MissBusy holder) f (record { going = f.going; by = ap Some f.thread; next = (f.units, refl, (_, _, f.shows.is)) }) refl tt at seen
+      tries l (entry.Miss z.thread l (stack_of p c.context.frames) (miss.Busy holder)) c' z' (reply.MissBusy holder) f (record { going = f.going; by = ap Some f.thread; next = (f.units, refl, (_, _, f.shows.is)) }) refl refl at seen
   turned_try l c' z' (reply.MissAvoid named) f may at seen =
-      tries l (entry.Miss z.thread l (stack_of p c.context.frames) (miss.Avoid named)) c' z' (reply.MissAvoid named) f (record { going = f.going; by = ap Some f.thread; next = (f.units, refl, (_, _, f.shows.is)) }) refl tt at seen
+      tries l (entry.Miss z.thread l (stack_of p c.context.frames) (miss.Avoid named)) c' z' (reply.MissAvoid named) f (record { going = f.going; by = ap Some f.thread; next = (f.units, refl, (_, _, f.shows.is)) }) refl refl at seen
   turned_try l c' z' _ f may at seen = absurd may
 
   pub turned_wish : (l : Lid) (drops : Bool) (c' : Configuration) (z' : Seen) (r : Reply) → Faces p c z (step.Wants l drops) → 2 ≤ c.units → IsReplyTo z (request_of p c l) r
       → c' ≡ asked l c r → z' ≡ told z (request_of p c l) r → Turned p c z turn.Moved c' z' stopped woken
   turned_wish l drops c' z' reply.Go f two may at seen =
       turned_by c' z' reply.Go (entry.Go z.thread l (stack_of p c.context.frames)) f.fits f.thread
-      (record { going = f.going; by = ap Some f.thread; next = (two, refl, (_, f.shows.is)) }) refl tt at seen
+      (record { going = f.going; by = ap Some f.thread; next = (two, refl, (_, f.shows.is)) }) refl refl at seen
   turned_wish l drops c' z' (reply.Yield named) f two may at seen =
       turned_by c' z' (reply.Yield named) (entry.Yield z.thread l (stack_of p c.context.frames) named.sig named.births) f.fits f.thread
-      (record { going = f.going; by = ap Some f.thread; next = (two, refl, (_, f.shows.is)) }) refl tt at seen
+      (record { going = f.going; by = ap Some f.thread; next = (two, refl, (_, f.shows.is)) }) refl refl at seen
   turned_wish l drops c' z' _ f two may at seen = absurd may
 
   pub turned_spent : (l : Lid) (drops : Bool) (c' : Configuration) (z' : Seen) → Faces p c z (step.Wants l drops) → IsReady c.state z woken → c.units < 2
@@ -116,7 +113,7 @@ module _ (p : Code) (c : Configuration) (z : Seen) (stopped woken : Type 0) wher
       turned_by c' z' reply.Got (entry.Got z.thread l) f.fits f.thread
       (record { going = f.going; by = ap Some f.thread; next = (f.units, (_, f.shows.is)) })
       refl
-      tt
+      refl
       (at ∙ ap (λ n. moved_by c (entry.Got z.thread l) n) (sym f.shows.is))
       seen
 
@@ -137,8 +134,8 @@ module _ (p : Code) (c : Configuration) (z : Seen) (stopped woken : Type 0) wher
   turned_empty c' z' f t going none at seen = turned_over c' z' Spent f t (record { going = going; by = refl; next = inl none }) at seen
 
   -- a plain instruction
-  pub turned_plain : (c' : Configuration) → FitsMachine p c z.own → z.thread ≡ c.thread → is_ended c.state ≡ false → 1 ≤ c.units → GoesOn z.last → IsStep p c step.Plain c' → Turned p c z turn.Moved c' z stopped woken
-  turned_plain c' f t going units on s =
+  pub turned_plain : (c' : Configuration) → FitsMachine p c z.own → z.thread ≡ c.thread → is_ended c.state ≡ false → 1 ≤ c.units → IsStep p c step.Plain c' → Turned p c z turn.Moved c' z stopped woken
+  turned_plain c' f t going units s =
       let running = runs p c z c.state refl f going (λ m w. let x : Plain c'.context ≡ Wants m w.0 = sym s.shows.is ∙ w.1 in cc) in
       let makes : MakesPlain p (place c z) (place c' z) = record { context = c'.context; running = running; paid = units; next = s.shows.is; after = ap (λ x. place x z) s.rest } in
       record {
@@ -149,8 +146,7 @@ module _ (p : Code) (c : Configuration) (z : Seen) (stopped woken : Type 0) wher
         same = refl;
         locks = refl;
         left = omega arith;
-        asks = omega arith;
-        goes_on = on;
+        stops = refl;
         stop = tt;
       }
 
@@ -166,9 +162,8 @@ module _ (p : Code) (c : Configuration) (z : Seen) (stopped woken : Type 0) wher
         same = refl;
         locks = refl;
         left = omega arith;
-        asks = raised_more z.asks;
-        goes_on = tt;
-        stop = (record { asked = raised_rose z.asks; by = tt }, here);
+        stops = tt;
+        stop = (record { once = refl; by = tt }, here);
       }))
   turned_stopped l drops c' z' (reply.Still cause) f t stop here at seen =
       subst (λ x. Turned p c z turn.Stopped x z' stopped woken) (sym at) (subst (λ y. Turned p c z turn.Stopped c y stopped woken) (sym seen) (record {
@@ -179,16 +174,16 @@ module _ (p : Code) (c : Configuration) (z : Seen) (stopped woken : Type 0) wher
         same = refl;
         locks = refl;
         left = omega arith;
-        asks = raised_more z.asks;
-        goes_on = tt;
-        stop = (record { asked = raised_rose z.asks; by = tt }, here);
+        stops = tt;
+        stop = (record { once = refl; by = tt }, here);
       }))
   turned_stopped l drops c' z' _ f t stop here at seen = absurd stop
 
-  stops_from : (z0 z' : Seen) (r : Turn) → z0.asks ≤ z.asks → StopsIf (WasStopped z z' × stopped) r → StopsIf (WasStopped z0 z' × stopped) r
-  stops_from z0 z' turn.Moved le h = tt
-  stops_from z0 z' turn.Over le h = tt
-  stops_from z0 z' turn.Stopped le h = (record { asked = rose_from z0.asks z.asks z'.asks le h.0.asked; by = h.0.by }, h.1)
+-- what was stopped after a door was told nothing at which a slice stops was stopped before it
+stops_from : (z0 z z' : Seen) (stopped : Type 0) (r : Turn) → z.stops ≡ z0.stops → StopsIf (WasStopped z z' × stopped) r → StopsIf (WasStopped z0 z' × stopped) r
+stops_from z0 z z' stopped turn.Moved e h = tt
+stops_from z0 z z' stopped turn.Over e h = tt
+stops_from z0 z z' stopped turn.Stopped e h = (record { once = h.0.once ∙ ap raised e; by = h.0.by }, h.1)
 
 -- a turn after a poll that was told Woken
 turned_after : (p : Code) (c : Configuration) (z : Seen) (stopped woken : Type 0) (l : Lid) (r : Turn) (c' : Configuration) (z' : Seen)
@@ -202,9 +197,8 @@ turned_after p c z stopped woken l r c' z' h =
       same = h.same;
       locks = h.locks;
       left = h.left;
-      asks = omega (arith, raised_more z.asks, h.asks);
-      goes_on = h.goes_on;
-      stop = stops_from p c (told z (cmd.Acquire l) reply.Woken) stopped woken z z' r (raised_more z.asks) h.stop;
+      stops = h.stops;
+      stop = stops_from z (told z (cmd.Acquire l) reply.Woken) z' stopped r refl h.stop;
     }
 
 pub turned_woken : (p : Code) (c c1 : Configuration) (z z1 : Seen) (stopped woken : Type 0) (l : Lid) (drops : Bool) (r : Turn) (c' : Configuration) (z' : Seen)

@@ -2,7 +2,6 @@
 use Rattle.std.specs.Prelude.{◌≡◌, ℕ, ◌<◌, ◌+◌, ◌-◌, ◌^◌, nat_lt, ⊤, ◌⊎◌, true, false, if◌then◌else◌, List, [], ◌∷◌, ◌++◌, Option, Some, None}
 use Rattle.dim_base.specs.declared.Tid.{Tid}
 use Rattle.dim_base.specs.declared.Lid.{Lid}
-use Rattle.dim_base.specs.Causes.{Rose}
 use Rattle.dim_rag.specs.declared.entry.Entry.{Entry}
 use Rattle.dim_rag.specs.declared.entry.Entry.TheVariants as entry
 use Rattle.dim_rag.specs.declared.entry.MissWhy.TheVariants as miss
@@ -17,14 +16,14 @@ use Rattle.dim_rag.specs.Fits.{YieldsOn, IsAllowedOn}
 use Rattle.dim_vm.specs.Own.{has_lock, IsYieldingOn}
 
 -- what a door has seen: its thread, the number of locks, the thread's own entries, oldest first, the last reply, for how many more entries there is room, and
--- how many asks there were
+-- at how many replies a slice stops
 pub record Seen : Type 0 where
   pub thread : Tid
   pub locks : ℕ
   pub own : List Entry
   pub last : Option Reply
   pub left : ℕ
-  pub asks : ℕ
+  pub stops : ℕ
 
 -- the mode of the thread by its own entries
 abbrev pub mode_in : Seen → Mode
@@ -91,10 +90,16 @@ entry_of t _ _ = None
 abbrev pub raised : ℕ → ℕ
 raised n = if nat_lt n (2 ^ 64 - 1) then n + 1 else n
 
+-- how many replies were ones at which a slice stops, after one more reply
+abbrev pub stops_after : Reply → ℕ → ℕ
+stops_after (reply.Busy holder) n = raised n
+stops_after (reply.Still cause) n = raised n
+stops_after _ n = n
+
 -- what is seen after a reply, with its entry if it makes one
 abbrev pub grown : Seen → Reply → Option Entry → Seen
-grown z r None = record z { last = Some r; asks = raised z.asks }
-grown z r (Some e) = record z { own = z.own ++ e ∷ []; last = Some r; left = z.left - 1; asks = raised z.asks }
+grown z r None = record z { last = Some r; stops = stops_after r z.stops }
+grown z r (Some e) = record z { own = z.own ++ e ∷ []; last = Some r; left = z.left - 1; stops = stops_after r z.stops }
 
 -- what is seen after the reply to a command
 abbrev pub told : Seen → Command → Reply → Seen
@@ -111,13 +116,7 @@ abbrev pub IsStopBy : Option Reply → Type 0
 IsStopBy None = ⊥
 IsStopBy (Some r) = IsStop r
 
--- no reply so far was one at which a slice stops: only then a machine may ask
-abbrev pub GoesOn : Option Reply → Type 0
-GoesOn (Some (reply.Busy holder)) = ⊥
-GoesOn (Some (reply.Still cause)) = ⊥
-GoesOn _ = ⊤
-
--- between z and z' the door was asked, and the last reply is one at which a slice stops
+-- of the replies between z and z' one alone is one at which a slice stops, and it is the last
 pub record WasStopped (z z' : Seen) : Type 0 where
-  pub asked : Rose z.asks z'.asks
+  pub once : z'.stops ≡ raised z.stops
   pub by : IsStopBy z'.last

@@ -1,5 +1,5 @@
 -- What the parts of a turn do.
-use Rattle.std.specs.Prelude.{◌≡◌, ◌≤◌, ◌+◌, ◌-◌, ⊤, Bool, true, false, slice_set, pos, Option}
+use Rattle.std.specs.Prelude.{◌≡◌, ℕ, ◌≤◌, ◌+◌, ◌-◌, ⊤, Bool, true, false, slice_set, pos}
 use Rattle.dim_base.specs.declared.Lid.{Lid}
 use Rattle.dim_asm.specs.Code.{Code, lock_count}
 use Rattle.dim_rag.specs.declared.command.Command.{Command}
@@ -15,7 +15,7 @@ use Rattle.dim_vm.specs.Frames.{stack_of}
 use Rattle.dim_vm.specs.Table.{on, pushed}
 use Rattle.dim_vm.specs.Steps.{Shows, IsFound, told_by, paid, gone}
 use Rattle.dim_vm.specs.Configuration.{Configuration, next_of, is_ended}
-use Rattle.dim_vm.specs.Door.{Seen, WasWoken, GoesOn, WasStopped}
+use Rattle.dim_vm.specs.Door.{Seen, WasWoken, WasStopped}
 use Rattle.dim_vm.specs.Fitting.{FitsMachine}
 use Rattle.dim_vm.specs.Moves.{Place, Move, Finish}
 use Rattle.dim_vm.specs.Slice.{place}
@@ -57,13 +57,12 @@ IsTurn p woken a turn.Moved b = Move p a b
 IsTurn p woken a turn.Over b = Finish p woken a b
 IsTurn p woken a turn.Stopped b = b ≡ a
 
--- a machine, with units, that fits its door and may ask, faces what is next
+-- a machine, with units, that fits its door, faces what is next
 pub record Faces (p : Code) (c : Configuration) (z : Seen) (step : Step) : Type 0 where
   pub fits : FitsMachine p c z.own
   pub going : is_ended c.state ≡ false
   pub thread : z.thread ≡ c.thread
   pub locks : z.locks ≡ lock_count p
-  pub goes_on : GoesOn z.last
   pub units : 1 ≤ c.units
   pub shows : Shows c.context (next_of p c) step c.context
   pub found : IsFound p c.holds c.context (told_by c.context step c.context)
@@ -72,10 +71,10 @@ abbrev pub StopsIf : Type 0 → Turn → Type 0
 StopsIf stopped turn.Stopped = stopped
 StopsIf stopped _ = ⊤
 
--- only after a turn that was stopped the machine may not ask
-abbrev pub GoesOnUnless : Turn → Option Reply → Type 0
-GoesOnUnless turn.Stopped r = ⊤
-GoesOnUnless _ r = GoesOn r
+-- only a turn that was stopped was told a reply at which a slice stops
+abbrev pub AreNoStops : Turn → ℕ → ℕ → Type 0
+AreNoStops turn.Stopped before after = ⊤
+AreNoStops _ before after = after ≡ before
 
 -- a turn of a machine at its door. `stopped` and `woken` are the door's, after it
 pub record Turned (p : Code) (c : Configuration) (z : Seen) (turn : Turn) (c' : Configuration) (z' : Seen) (stopped woken : Type 0) : Type 0 where
@@ -86,8 +85,7 @@ pub record Turned (p : Code) (c : Configuration) (z : Seen) (turn : Turn) (c' : 
   pub same : z'.thread ≡ z.thread
   pub locks : z'.locks ≡ z.locks
   pub left : z.left ≤ z'.left + 1
-  pub asks : z.asks ≤ z'.asks
-  pub goes_on : GoesOnUnless turn z'.last
+  pub stops : AreNoStops turn z.stops z'.stops
   pub stop : StopsIf (WasStopped z z' × stopped) turn
 
 -- a thread that stands so may ask or end: it runs, or it yields and was woken by the last reply

@@ -1,13 +1,13 @@
 //! The gate as one machine sees it.
 ghost use Rattle.std.specs.Prelude.{◌≡◌, ◌≤◌};
-ghost use Rattle.dim_vm.specs.Door.{Seen, MayAsk, GoesOn, IsReplyTo, told, IsStop};
+ghost use Rattle.dim_vm.specs.Door.{Seen, MayAsk, IsReplyTo, told, IsStop, stops_after};
 ghost use Rattle.dim_rag.specs.declared.command.Reply.TheVariants as reply;
 
 use dim_rag::{Command, Reply};
 
-/// The gate as one machine sees it in one slice. One that was told Busy or Still asks nothing more in that slice, and is given its door anew for the next.
+/// The gate as one machine sees it.
 pub trait Door {
-    /// The thread, the number of locks, the thread's own entries, the last reply, for how many entries there is room, and the count of asks.
+    /// The thread, the number of locks, the thread's own entries, the last reply, for how many entries there is room, and how many replies were Busy or Still.
     ghost seen: { Self → Seen };
 
     /// The thread can't go on, by what was last seen of the history.
@@ -22,7 +22,6 @@ pub trait Door {
     /// Asks the gate.
     fn ask(&mut self, cmd: Command) -> Reply
         requires room { 1 ≤ (seen self.old).left }
-        requires goes_on { GoesOn (seen self.old).last }
         requires may { MayAsk (seen self.old) cmd }
         ensures reply { IsReplyTo (seen self.old) cmd result }
         ensures seen { seen self.new ≡ told (seen self.old) cmd result }
@@ -36,4 +35,14 @@ pub trait Door {
 
     /// Asks after asks are asks.
     ghost reaches_on: { (a b c : Self) → reaches a b → reaches b c → reaches a c };
+}
+
+/// How many replies were Busy or Still, after one more reply, where so many were before it. At 2^64 - 1 it stands still.
+pub fn stops_after(reply: &Reply, stops: u64) -> u64
+    ensures { result ≡ stops_after reply.now stops }
+{
+    match reply {
+        Reply::Busy { .. } | Reply::Still { .. } => stops.saturating_add(1),
+        _ => stops,
+    }
 }

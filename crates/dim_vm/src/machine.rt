@@ -8,7 +8,7 @@ ghost use Rattle.dim_asm.specs.Code.{lock_count, thread_count};
 ghost use Rattle.dim_rag.specs.History.{past};
 ghost use Rattle.dim_vm.specs.Own.{state_by};
 ghost use Rattle.dim_vm.specs.Configuration.{start};
-ghost use Rattle.dim_vm.specs.Door.{GoesOn};
+ghost use Rattle.dim_vm.specs.Door.{WasStopped};
 ghost use Rattle.dim_vm.specs.Fitting.{FitsMachine};
 ghost use Rattle.dim_vm.specs.Slice.{IsSlice};
 
@@ -92,7 +92,6 @@ impl Machine {
     pub fn slice<D: Door>(&mut self, program: &Program, door: &mut D, q: u32) -> Slice
         requires some { 1 ≤ q }
         requires room { q + 1 ≤ (D.seen door.old).left }
-        requires goes_on { GoesOn (D.seen door.old).last }
         requires fits { FitsMachine program.now self.old (D.seen door.old).own }
         requires thread { (D.seen door.old).thread ≡ self.old.thread }
         requires locks { (D.seen door.old).locks ≡ lock_count program.now }
@@ -100,7 +99,7 @@ impl Machine {
         // the moves, of which `result.moves` is the number, and the End, if there is one
         ensures made { IsSlice program.now self.old (D.seen door.old) q result.moves self.new (D.seen door.new)
             (D.stopped door.new) (D.woken door.new) }
-        ensures last { GoesOn (D.seen door.new).last ⊎ (result.moves < q) }
+        ensures stops { ((D.seen door.new).stops ≡ (D.seen door.old).stops) ⊎ (WasStopped (D.seen door.old) (D.seen door.new) × (result.moves < q)) }
         ensures fits { FitsMachine program.now self.new (D.seen door.new).own }
         ensures state { result.state ≡ self.new.state }
         ensures by_own { result.state ≡ state_by (past (D.seen door.new).own) }

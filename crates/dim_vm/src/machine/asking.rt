@@ -1,7 +1,7 @@
 //! What a machine asks, one command in each function, and what it does at the reply.
 ghost use Rattle.std.specs.Prelude.{◌≡◌, ◌<◌, ◌≤◌, ◌-◌, false, length};
 ghost use Rattle.dim_rag.specs.declared.command.Reply.TheVariants as reply;
-ghost use Rattle.dim_vm.specs.Door.{MayAsk, GoesOn, IsReplyTo, told, IsStop};
+ghost use Rattle.dim_vm.specs.Door.{MayAsk, IsReplyTo, told, IsStop};
 ghost use Rattle.dim_vm.specs.Frames.{top_frame};
 ghost use Rattle.dim_vm.specs.Turns.{request_of, attempt_of, asked, acquired, behind_lock, tried};
 
@@ -16,7 +16,6 @@ impl Machine {
     /// Asks for a lock, for a unit.
     pub(super) fn request<D: Door>(&mut self, program: &Program, door: &mut D, l: Lid) -> Reply
         requires room { 1 ≤ (D.seen door.old).left }
-        requires goes_on { GoesOn (D.seen door.old).last }
         requires units { 1 ≤ self.old.units }
         requires may { MayAsk (D.seen door.old) (request_of program.now self.old l) }
         ensures reply { IsReplyTo (D.seen door.old) (request_of program.now self.old l) result }
@@ -37,7 +36,6 @@ impl Machine {
     /// Asks whether it has a lock by now, and pays a unit if it has.
     pub(super) fn acquire<D: Door>(&mut self, door: &mut D, l: Lid, drops: bool) -> Reply
         requires room { 1 ≤ (D.seen door.old).left }
-        requires goes_on { GoesOn (D.seen door.old).last }
         requires units { 1 ≤ self.old.units }
         requires lock { l.0 < 256 }
         requires at { (top_frame self.old.context.frames).at < 65536 }
@@ -59,7 +57,6 @@ impl Machine {
     /// Gives a lock back, for a unit.
     pub(super) fn release<D: Door>(&mut self, door: &mut D, l: Lid, drops: bool)
         requires room { 1 ≤ (D.seen door.old).left }
-        requires goes_on { GoesOn (D.seen door.old).last }
         requires units { 1 ≤ self.old.units }
         requires lock { l.0 < 256 }
         requires at { (top_frame self.old.context.frames).at < 65536 }
@@ -75,7 +72,6 @@ impl Machine {
     /// Tries to take a lock, for a unit, and goes on with an operand that says whether it has.
     pub(super) fn attempt<D: Door>(&mut self, program: &Program, door: &mut D, l: Lid) -> Reply
         requires room { 1 ≤ (D.seen door.old).left }
-        requires goes_on { GoesOn (D.seen door.old).last }
         requires units { 1 ≤ self.old.units }
         requires lock { l.0 < 256 }
         requires at { (top_frame self.old.context.frames).at < 65536 }
@@ -102,7 +98,6 @@ impl Machine {
     /// Ends.
     pub(super) fn finish<D: Door>(&mut self, door: &mut D, why: Why)
         requires room { 1 ≤ (D.seen door.old).left }
-        requires goes_on { GoesOn (D.seen door.old).last }
         requires may { MayAsk (D.seen door.old) (Command.End why) }
         ensures value { self.new ≡ record self.old { state = State.Ended why } }
         ensures seen { D.seen door.new ≡ told (D.seen door.old) (Command.End why) reply.Ended }

@@ -2,7 +2,6 @@
 ghost use Rattle.std.specs.Prelude.{◌≡◌, ◌≢◌, ◌≤◌, false};
 ghost use Rattle.dim_asm.specs.Code.{lock_count};
 ghost use Rattle.dim_vm.specs.Configuration.{is_ended};
-ghost use Rattle.dim_vm.specs.Door.{GoesOn};
 ghost use Rattle.dim_vm.specs.Fitting.{FitsMachine};
 ghost use Rattle.dim_vm.specs.Steps.{IsFound, told_by};
 ghost use Rattle.dim_vm.specs.Turns.{IsStep, Faces, Turned, IsReady};
@@ -23,7 +22,6 @@ impl Machine {
     pub(super) fn turn<D: Door>(&mut self, program: &Program, door: &mut D) -> Turn
         requires room { 1 ≤ (D.seen door.old).left }
         requires fits { FitsMachine program.now self.old (D.seen door.old).own }
-        requires goes_on { GoesOn (D.seen door.old).last }
         requires going { is_ended self.old.state ≡ false }
         requires thread { (D.seen door.old).thread ≡ self.old.thread }
         requires locks { (D.seen door.old).locks ≡ lock_count program.now }

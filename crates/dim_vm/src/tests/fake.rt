@@ -9,7 +9,7 @@ ghost use Rattle.dim_rag.specs.declared.command.Reply.TheVariants as reply;
 ghost use Rattle.dim_rag.specs.declared.entry.Named.{Named};
 ghost use Rattle.dim_vm.specs.Door.{MayAsk, IsReplyTo, IsAcquired, mode_in, entry_of, grown};
 
-use crate::door::Door;
+use crate::door::{stops_after, Door};
 use dim_base::{OutOfMemory, Tid};
 use dim_rag::{Births, Command, Entry, MissWhy, Named, Reply};
 use std::alloc::Global;
@@ -30,6 +30,7 @@ pub struct Fake {
     locks: u32,
     left: u32,
     asks: u64,
+    stops: u64,
     yielding: bool,
     last: Option<Reply>,
     own: Vec<Entry>,
@@ -44,7 +45,7 @@ impl Model for Fake {
 
     ghost Value = { Seen };
 
-    ghost view = { λ d. record { thread = d.thread; locks = d.locks; own = d.own.items; last = d.last; left = d.left; asks = d.asks } };
+    ghost view = { λ d. record { thread = d.thread; locks = d.locks; own = d.own.items; last = d.last; left = d.left; stops = d.stops } };
 
     ghost invariant = { λ d. (vec_len d.own + d.left ≤ vec_capacity d.own) × (d.yielding ≡ true → IsYielding d.thread.0 (past d.own.items)) };
 }
@@ -122,7 +123,7 @@ impl Fake {
         left: u32,
         script: Script,
     ) -> Result<Fake, OutOfMemory>
-        ensures { IfOk result (λ d. d ≡ record { thread = thread; locks = locks; own = []; last = None; left = left; asks = 0 }) }
+        ensures { IfOk result (λ d. d ≡ record { thread = thread; locks = locks; own = []; last = None; left = left; stops = 0 }) }
     {
         let mut own = Vec::new(alloc);
         own.reserve(left as usize)?;
@@ -131,6 +132,7 @@ impl Fake {
             locks,
             left,
             asks: 0,
+            stops: 0,
             yielding: false,
             last: None,
             own,
@@ -226,6 +228,7 @@ impl Fake {
     {
         self.last = Some(*reply);
         self.asks = self.asks.saturating_add(1);
+        self.stops = stops_after(reply, self.stops);
         if let Some(e) = entry {
             self.yielding = is_yield(&e);
             self.left -= 1;
@@ -246,7 +249,7 @@ impl Door for Fake {
 
     ghost woken = { λ _. ⊤ };
 
-    ghost reaches = { λ a b. a.asks ≤ b.asks };
+    ghost reaches = { λ a b. a.stops ≤ b.stops };
 
     fn ask(&mut self, cmd: Command) -> Reply {
         let reply = self.choose(&cmd);

@@ -1,5 +1,4 @@
 use Rattle.std.proofs.Common.{◌≡◌, ◌≤◌, ◌+◌}
-use Rattle.dim_vm.specs.Door.{GoesOn}
 use Rattle.dim_vm.specs.Fitting.{FitsMachine}
 use Rattle.dim_vm.specs.Moves.{Moves}
 use Rattle.dim_vm.specs.Slice.{place}
@@ -14,7 +13,6 @@ invariant-loop-moves g l = record {
   same : (g.D.Door.seen l.door).thread ≡ (g.D.Door.seen l.fn.door).thread;
   locks : (g.D.Door.seen l.door).locks ≡ (g.D.Door.seen l.fn.door).locks;
   left : (g.D.Door.seen l.fn.door).left ≤ (g.D.Door.seen l.door).left + l.moves;
-  asks : (g.D.Door.seen l.fn.door).asks ≤ (g.D.Door.seen l.door).asks;
-  goes_on : GoesOn (g.D.Door.seen l.door).last;
+  stops : (g.D.Door.seen l.door).stops ≡ (g.D.Door.seen l.fn.door).stops;
   reaches : g.D.Door.reaches l.fn.door l.door;
 }

@@ -5,7 +5,7 @@ use Rattle.dim_vm.proofs.machine.Machine.turn.Goals as goal
 
 pub returns-in-Plain-clause-turned : goal.returns-in-Plain-clause-turned
 returns-in-Plain-clause-turned g c =
-    turned_plain c.args.program.now c.args.self.now _ _ _ _ c.requires.fits c.requires.thread c.requires.going (subst (λ x. 1 ≤ x.units) c.self.view_is (omega (arith, c.if-self-eq0.false))) c.requires.goes_on c.in-Plain.ensures.step
+    turned_plain c.args.program.now c.args.self.now _ _ _ _ c.requires.fits c.requires.thread c.requires.going (subst (λ x. 1 ≤ x.units) c.self.view_is (omega (arith, c.if-self-eq0.false))) c.in-Plain.ensures.step
 
 pub finish-requires-clause-may : goal.finish-requires-clause-may
 finish-requires-clause-may g c =
