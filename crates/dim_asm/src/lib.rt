@@ -5,6 +5,7 @@ mod assembler;
 mod binding;
 mod draft;
 mod fault;
+mod judging;
 mod laws;
 mod linker;
 mod mnemonic;

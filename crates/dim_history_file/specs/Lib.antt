@@ -7,3 +7,4 @@ pub mod Naming
 pub mod Reader
 pub mod Seen
 pub mod Signing
+pub mod Places

@@ -14,7 +14,7 @@ mod writing;
 
 pub use fault::{FileFault, FileKind, ReadFault};
 pub use history::History;
-pub use laws::{reading_law, spelling_law};
+pub use laws::{first_fault_law, reading_law, spelling_law};
 pub use reading::read;
 pub use renaming::rename;
 pub use writing::{put_stack, write};
