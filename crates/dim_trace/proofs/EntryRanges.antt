@@ -20,7 +20,7 @@ use Rattle.dim_gate.specs.Gate.{Constants}
 use Rattle.dim_gate.specs.Legal.{Legal}
 use Rattle.dim_vm.specs.Stacks.{IsAtInstruction, AskedLaw, NamedLaw, stack_with}
 use Rattle.dim_vm.specs.Walks.{Walks}
-use Rattle.dim_trace.specs.Checking.{gate_of}
+use Rattle.dim_execution.specs.Start.{gate_of}
 use Rattle.dim_trace.specs.Grammar.{IsThread, IsFrame, IsStack, IsEntry, HasSet}
 use Rattle.dim_trace.specs.Laws.{AreMade, EntriesLaw}
 use Rattle.dim_trace.proofs.CallDepths.{HasDepth, fitting}

@@ -42,7 +42,8 @@ use Rattle.dim_vm.specs.Walks.{Walks, FitsCaller, IsAwake, IsWoken, caller_of, c
 use Rattle.dim_trace.specs.declared.verdict.Rule.TheVariants as rule
 use Rattle.dim_trace.specs.declared.verdict.Verdict.{Verdict}
 use Rattle.dim_trace.specs.declared.verdict.Verdict.TheVariants.{Yes, No}
-use Rattle.dim_trace.specs.Checking.{IsLawful, IsSoundTo, IsVerdict, before}
+use Rattle.dim_execution.specs.Executes.{Executes}
+use Rattle.dim_trace.specs.Checking.{IsSoundTo, IsVerdict, before}
 use Rattle.dim_trace.specs.Tested.{FoundLaw, same_stack, are_among, is_in_range, is_made, is_legal, wants, frees, tries, wants_some, ends, fits_next, fits, is_awake, is_move, rests, all_rest, is_settled, by_tests, verdict_after, verdict_of}
 use Rattle.dim_trace.proofs.Settling.{of_cycles}
 
@@ -261,7 +262,7 @@ module _ (c : Constants) (p : Code) (fuel : ℕ) (done : List Entry) (passed : L
 
   closed : (at_end : Bool) → Decides at_end (IsSettled c (past done)) → (place : ℕ) → place ≡ length done → IsVerdict c p fuel (done ++ []) (if at_end then Yes else No place rule.Settled)
   closed true s place q =
-      subst (λ es. IsLawful c p fuel (past es)) (sym (append-nil done)) record { legal = passed; walks = walked; settled = s.0 refl }
+      subst (Executes c p fuel) (sym (append-nil done)) record { legal = passed; walks = walked; settled = s.0 refl }
   closed false s place q = (
     sound [] place q,
     record {

@@ -12,7 +12,7 @@ use Rattle.dim_signature.specs.Sig.{Sig, IsSig}
 use Rattle.dim_gate.specs.Gate.{Constants}
 use Rattle.dim_gate.specs.Legal.{Legal}
 use Rattle.dim_vm.specs.Walks.{Walks}
-use Rattle.dim_trace.specs.Checking.{gate_of}
+use Rattle.dim_execution.specs.Start.{gate_of}
 use Rattle.dim_trace.specs.declared.keyword.Keyword.{Keyword}
 use Rattle.dim_trace.specs.Keywords.{spelling}
 use Rattle.dim_trace.specs.Text.{stack_words, words_of_entry, trace_text}
