@@ -42,7 +42,10 @@ pub fn entry_by(t: Tid, cmd: &Command, reply: &Reply) -> Option<Entry>
             why: MissWhy::Avoid(*named),
         }),
         (Command::End { why }, Reply::Ended) => Some(Entry::End { t, why: *why }),
-        (Command::Break { set, t }, Reply::Broken { .. }) => Some(Entry::Break { set: *set, t: *t }),
+        (Command::Break { set, t }, Reply::Broken { .. }) => Some(Entry::Break {
+            set: *set,
+            t: *t,
+        }),
         (Command::Learn { births }, Reply::Learnt { .. }) => Some(Entry::Learn { births: *births }),
         _ => None,
     }

@@ -39,11 +39,11 @@ mode_by_edge t l (Allowed k birth) s x q =
 
 by_row : (t : ℕ) (l : Lid) (birth : ℕ) (r : Row) (h : List Entry) → IsRow t r h → (mode t h ≡ Allowed l birth → HasAllow t l birth h) × (HasAllow t l birth h → mode t h ≡ Allowed l birth)
 by_row t l birth r h k = (
-    λ q.
+  λ q.
       let w = edge_by t l birth r.stack in
       (w.0, k.allow_is l.0 ∙ ap (λ m. allowed_on t l.0 m r.stack) (old_mode t r h k (Allowed l birth) q) ∙ w.1, w.2),
-    λ w. k.mode_is ∙ mode_by_edge t l r.mode r.stack w.0 (sym (k.allow_is l.0) ∙ w.1) ∙ ap (Allowed l) w.2,
-  )
+  λ w. k.mode_is ∙ mode_by_edge t l r.mode r.stack w.0 (sym (k.allow_is l.0) ∙ w.1) ∙ ap (Allowed l) w.2,
+)
 
 pub allowed_law : AllowedLaw
 allowed_law n m h f i t lt l birth =

@@ -15,7 +15,7 @@ mod step;
 mod tests;
 mod trap;
 
-pub use door::{stops_after, Door};
+pub use door::{Door, stops_after};
 pub use laws::{own_entries_law, own_history_law, own_walks_law, stacks_law, walk_places_law};
 pub use machine::Machine;
 pub use state::{Slice, State};

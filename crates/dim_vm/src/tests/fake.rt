@@ -9,7 +9,7 @@ ghost use Rattle.dim_rag.specs.declared.command.Reply.TheVariants as reply;
 ghost use Rattle.dim_rag.specs.declared.entry.Named.{Named};
 ghost use Rattle.dim_vm.specs.Door.{MayAsk, IsReplyTo, IsAcquired, mode_in, entry_of, grown};
 
-use crate::door::{stops_after, Door};
+use crate::door::{Door, stops_after};
 use dim_base::{OutOfMemory, Tid};
 use dim_rag::{Births, Command, Entry, MissWhy, Named, Reply};
 use std::alloc::Global;
