@@ -9,7 +9,7 @@ use Rattle.dim_history_file.specs.Value.{NamedSig}
 use Rattle.dim_trace.specs.declared.verdict.Rule.{Rule}
 use Rattle.dim_trace.specs.declared.verdict.Verdict.{Verdict}
 use Rattle.dim_trace.specs.declared.verdict.Verdict.TheVariants.{Yes, No}
-use Rattle.dim_trace.specs.Checking.{gate_of}
+use Rattle.dim_execution.specs.Start.{gate_of}
 use Rattle.dim_trace.specs.Judging.{trace_of}
 use Rattle.dim_trace.specs.Tested.{FoundLaw}
 use Rattle.dim_trace.specs.Value.{TraceValue}

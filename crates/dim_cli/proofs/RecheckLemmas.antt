@@ -3,9 +3,9 @@ use Rattle.std.proofs.Common.{◌≡◌, ◌≤◌, List, ℕ, length, Ok, refl,
 use Rattle.dim_base.specs.Files.{Named}
 use Rattle.dim_trace.specs.declared.verdict.Verdict.{Verdict}
 use Rattle.dim_trace.specs.declared.verdict.Verdict.TheVariants.{Yes}
-use Rattle.dim_trace.specs.Checking.{VerdictLaw, gate_of, IsLawful}
+use Rattle.dim_execution.specs.Start.{gate_of}
+use Rattle.dim_trace.specs.Checking.{VerdictLaw}
 use Rattle.dim_trace.specs.Tested.{FoundLaw}
-use Rattle.dim_rag.specs.History.{past}
 use Rattle.dim_cli.specs.declared.check.Texts.{Texts}
 use Rattle.dim_cli.specs.declared.stop.Place.TheVariants.{Program, Trace}
 use Rattle.dim_cli.specs.declared.stop.Refusal.TheVariants.{BadTrace}
@@ -49,8 +49,7 @@ module _ (one : VerdictLaw) (found : FoundLaw) (w : RunWords) (before after file
   verdict_is =
       let p = program_of h.inputs in
       let c = gate_of p (loaded_of h.inputs) w.settings.depth in
-      let lawful : IsLawful c p w.settings.fuel (past h.entries) = record { legal = h.lawful.executes.legal; walks = h.lawful.executes.walks; settled = h.lawful.executes.settled } in
-      one c p w.settings.fuel h.entries (verdict_on judged) Yes (found c p w.settings.fuel h.entries) lawful
+      one c p w.settings.fuel h.entries (verdict_on judged) Yes (found c p w.settings.fuel h.entries) h.lawful.executes
 
   says_yes : (check_course files (check_of w)).ending ≡ Ok (checked (length h.entries))
   unfolding check_course

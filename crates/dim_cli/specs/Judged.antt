@@ -4,7 +4,8 @@ use Rattle.dim_base.specs.Files.{Named}
 use Rattle.dim_asm.specs.Assembling.{program_of as assembled_of}
 use Rattle.dim_history_file.specs.Judging.{history_of}
 use Rattle.dim_trace.specs.declared.verdict.Verdict.{Verdict}
-use Rattle.dim_trace.specs.Checking.{gate_of, IsVerdict}
+use Rattle.dim_execution.specs.Start.{gate_of}
+use Rattle.dim_trace.specs.Checking.{IsVerdict}
 use Rattle.dim_trace.specs.Judging.{trace_of}
 use Rattle.dim_trace.specs.Value.{TraceValue}
 use Rattle.dim_words.specs.Words.{CheckWords}
