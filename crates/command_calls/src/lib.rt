@@ -3,6 +3,7 @@
 #![tactic(auto)]
 
 mod around;
+pub mod large;
 mod meeting;
 pub mod programs;
 pub mod words;

@@ -3,6 +3,9 @@
 /// One thread that ends at once.
 pub const SMALLEST: &[u8] = b"dim program 1\nfunc main 0\nRET\nend\nthread main 0\nend program\n";
 
+/// The trace of the run of `SMALLEST`.
+pub const SMALLEST_TRACE: &[u8] = b"dim trace 1\nsettings 8192 4\ndone 0\nend 1\n";
+
 /// Two threads that take two locks in opposite orders.
 pub const CROSSED: &[u8] =
     b"dim program 1\nlock a\nlock b\nfunc left 0\nLOCK a\nLOCK b\nUNLOCK b\nUNLOCK a\nRET\nend\nfunc right 0\nLOCK b\nLOCK a\nUNLOCK a\nUNLOCK b\nRET\nend\nthread left 0\nthread right 0\nend program\n";

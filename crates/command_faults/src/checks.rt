@@ -1,6 +1,6 @@
 //! Traces that are checked.
 
-use command_calls::programs::{CROSSED, LEARNT, PLAIN, SMALLEST};
+use command_calls::programs::{CROSSED, LEARNT, PLAIN, SMALLEST, SMALLEST_TRACE};
 use command_calls::words::{CHECK, CHECK_ALONE, RUN, SHORT_SLICES};
 use command_calls::{Around, called, loaded, over};
 use dim_base::{MemFiles, OutOfMemory, Word};
@@ -22,8 +22,6 @@ const SPENT: &[u8] = b"dim trace 1\nsettings 8192 4\ngo 0 a main:2\ngot 0 a\nspe
 
 const SPENT_WITH_FOUR: &[u8] =
     b"dim trace 1\nsettings 4 4\ngo 0 a main:2\ngot 0 a\nspent 0\nend 3\n";
-
-const DONE: &[u8] = b"dim trace 1\nsettings 8192 4\ndone 0\nend 1\n";
 
 const MISCOUNTED: &[u8] = b"dim trace 1\nsettings 8192 4\ndone 0\nend 2\n";
 
@@ -130,7 +128,7 @@ fn failing<R: Threads + Wait + Sync>(
         rt,
         alloc,
         words,
-        files_of(alloc, SMALLEST, LEARNT, DONE, fails)?,
+        files_of(alloc, SMALLEST, LEARNT, SMALLEST_TRACE, fails)?,
     )
 }
 

@@ -1,11 +1,11 @@
 //! Histories that are shown, and those that are refused.
 
+use command_calls::large::many_signatures;
 use command_calls::programs::{LEARNT, SMALLEST};
 use command_calls::words::SHORT_SLICES;
 use command_calls::{Around, loaded};
 use dim_base::OutOfMemory;
-use std::alloc::{AllocError, Global};
-use std::fmt::Write;
+use std::alloc::Global;
 use std::sync::Wait;
 use std::test::Fail;
 use std::thread::Threads;
@@ -68,20 +68,10 @@ fn a_history_may_be_too_long(rt: HostRuntime) -> Result<(), Fail> {
     Ok(())
 }
 
-// The text of a history with so many signatures, each of two stacks.
-fn many(alloc: Global, count: u32) -> Result<String, AllocError> {
-    let mut text = String::from_str(alloc, "dim history 1\n")?;
-    for i in 0..count {
-        writeln!(text, "signature 4 2\na:{i}\nb:{i}")?;
-    }
-    writeln!(text, "end {count}")?;
-    Ok(text)
-}
-
 #[test]
 fn a_history_may_be_too_full(rt: HostRuntime) -> Result<(), Fail> {
     let alloc = rt.alloc();
-    let text = many(alloc, 4081)?;
+    let text = many_signatures(alloc, 4081)?;
     let after = loaded(&rt, alloc, &SHORT_SLICES, SMALLEST, text.as_bytes())?;
     assert_eq!(rt; after.status, 10);
     assert_eq!(rt; after.out.taken(), b"history full 4081 112071\n".as_slice());
@@ -91,7 +81,7 @@ fn a_history_may_be_too_full(rt: HostRuntime) -> Result<(), Fail> {
 #[test]
 fn the_largest_history_is_kept(rt: HostRuntime) -> Result<(), Fail> {
     let alloc = rt.alloc();
-    let text = many(alloc, 4080)?;
+    let text = many_signatures(alloc, 4080)?;
     let after = loaded(&rt, alloc, &SHORT_SLICES, SMALLEST, text.as_bytes())?;
     assert_eq!(rt; after.status, 0);
     assert_eq!(rt; after.held(alloc, "h")?, Some(text.as_bytes()));

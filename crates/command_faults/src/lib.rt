@@ -2,9 +2,15 @@
 #![tactic(auto)]
 
 #[cfg(test)]
+mod broken;
+#[cfg(test)]
 mod checks;
 #[cfg(test)]
 mod histories;
+#[cfg(test)]
+mod memory;
+#[cfg(test)]
+mod outside;
 #[cfg(test)]
 mod programs;
 #[cfg(test)]

@@ -10,36 +10,6 @@ use std::test::Fail;
 use std::thread::Threads;
 
 #[test]
-fn a_store_may_fail(rt: HostRuntime) -> Result<(), Fail> {
-    let alloc = rt.alloc();
-    let after = called(&rt, alloc, &RUN, SMALLEST, &[3], &[])?;
-    assert_eq!(rt; after.status, 7);
-    assert_eq!(rt; after.out.taken(), b"file fault trace\n".as_slice());
-    assert!(rt; after.held(alloc, "h")?.is_some());
-    Ok(())
-}
-
-#[test]
-fn the_sink_may_fail(rt: HostRuntime) -> Result<(), Fail> {
-    let alloc = rt.alloc();
-    let after = called(&rt, alloc, &RUN, SMALLEST, &[], &[1])?;
-    assert_eq!(rt; after.status, 8);
-    assert!(rt; after.held(alloc, "h")?.is_some());
-    assert!(rt; after.held(alloc, "t")?.is_some());
-    Ok(())
-}
-
-#[test]
-fn a_program_may_be_absent(rt: HostRuntime) -> Result<(), Fail> {
-    let alloc = rt.alloc();
-    let after = called(&rt, alloc, &["run", "q", "-", "h", "t"], SMALLEST, &[], &[])?;
-    assert_eq!(rt; after.status, 16);
-    assert_eq!(rt; after.out.taken(), b"file absent program\n".as_slice());
-    assert!(rt; after.held(alloc, "h")?.is_none());
-    Ok(())
-}
-
-#[test]
 fn a_program_may_be_too_long(rt: HostRuntime) -> Result<(), Fail> {
     let alloc = rt.alloc();
     let bytes = Vec::from_elem(alloc, b'\n', 4_194_305)?;

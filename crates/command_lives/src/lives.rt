@@ -1,5 +1,6 @@
 //! Runs whose slices go beside each other.
 
+use command_calls::large::{crowd, crowd_history};
 use command_calls::programs::{CROSSED, EMPTY, LEARNT, SMALLEST};
 use command_calls::words::{CHECK, LIVE, RUN};
 use command_calls::{called, loaded, over, words_of};
@@ -109,5 +110,27 @@ fn quiet_status(alloc: Global, words: &[&str]) -> Result<u8, OutOfMemory> {
 fn what_waits_for_nothing_knows_no_live(rt: HostRuntime) -> Result<(), Fail> {
     assert_eq!(rt; quiet_status(rt.alloc(), &LIVE)?, 2);
     assert_eq!(rt; quiet_status(rt.alloc(), &RUN)?, 0);
+    Ok(())
+}
+
+#[test]
+fn the_largest_crowd_lives(rt: HostRuntime) -> Result<(), Fail> {
+    let alloc = rt.alloc();
+    let words = [
+        "live",
+        "p",
+        "g",
+        "h",
+        "t",
+        "--quantum",
+        "1024",
+        "--workers",
+        "16",
+    ];
+    let program = crowd(alloc)?;
+    let history = crowd_history(alloc)?;
+    let after = loaded(&rt, alloc, &words, program.as_bytes(), history.as_bytes())?;
+    assert_eq!(rt; after.status, 0);
+    assert_eq!(rt; over(&rt, alloc, &CHECK, after.files)?.status, 0);
     Ok(())
 }
