@@ -14,7 +14,7 @@ fn crowd_trace(alloc: Global) -> Result<String, AllocError> {
         write!(text, "go {k} k{k:02} w:0\ngot {k} k{k:02}\n")?;
     }
     text.push_str("yield 31 k31 0 32")?;
-    for k in 0..32 {
+    for k in 0..32u32 {
         write!(text, " {}", 2 * k)?;
     }
     text.push_str(" w:0\n")?;
