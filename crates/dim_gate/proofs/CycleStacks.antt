@@ -8,6 +8,7 @@ use Rattle.dim_rag.specs.declared.entry.Mode.TheVariants.{Running, Allowed, Yiel
 use Rattle.dim_rag.specs.History.{mode}
 use Rattle.dim_rag.specs.Waits.{waits, waits_by}
 use Rattle.dim_rag.specs.Steps.{Follow, IsCycle, first_or, births}
+use Rattle.dim_signature.specs.Sig.{fresh}
 use Rattle.dim_signature.specs.Sorted.{sorted}
 use Rattle.dim_gate.specs.Known.{stack_at}
 use Rattle.dim_gate.specs.ByPlace.{SignatureLaw}
@@ -35,4 +36,4 @@ cycle_stacks n h [] k = absurd k
 cycle_stacks n h (e ∷ es) k = ap₂ (λ s ss. s ∷ ss) (first_stack n h e e es k.closed) (rest_stacks n h e e es k.closed)
 
 pub signature_law : SignatureLaw
-signature_law n depth h cycle k = ap (λ ss. record { depth = depth; stacks = sorted ss }) (cycle_stacks n h cycle k)
+signature_law n depth h cycle k = ap (λ ss. fresh depth (sorted ss)) (cycle_stacks n h cycle k)

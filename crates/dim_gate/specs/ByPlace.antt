@@ -6,7 +6,7 @@ use Rattle.dim_rag.specs.declared.entry.Entry.TheVariants.{Learn}
 use Rattle.dim_rag.specs.Fits.{Fits, AreInRange}
 use Rattle.dim_rag.specs.Waits.{waits}
 use Rattle.dim_rag.specs.Steps.{IsCycle, births}
-use Rattle.dim_signature.specs.Sig.{Sig}
+use Rattle.dim_signature.specs.Sig.{Sig, fresh}
 use Rattle.dim_signature.specs.Sorted.{sorted}
 use Rattle.dim_gate.specs.Gate.{Constants}
 use Rattle.dim_gate.specs.Known.{knowns, cycle_sig}
@@ -35,4 +35,4 @@ pub record KnownLaw : Type 0 where
 
 -- the signature of a cycle has the stacks of its hold edges, sorted, at the run's depth
 abbrev pub SignatureLaw : Type 0
-SignatureLaw = (n depth : ℕ) (h : List Entry) (cycle : List Edge) → IsCycle (waits n h) cycle → cycle_sig depth (births cycle) h ≡ record { depth = depth; stacks = sorted (map (λ e. e.stack) cycle) }
+SignatureLaw = (n depth : ℕ) (h : List Entry) (cycle : List Edge) → IsCycle (waits n h) cycle → cycle_sig depth (births cycle) h ≡ fresh depth (sorted (map (λ e. e.stack) cycle))

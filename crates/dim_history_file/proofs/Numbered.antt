@@ -28,5 +28,5 @@ IsNamed names s = All (IsNamedBy names) s.stacks
 pub sigs_again : OwnLaw → (names : List (List ℕ)) → AreAscending names → (sigs : List Sig) → AreNamed names sigs → numbered names (named names sigs) ≡ sigs
 sigs_again own names up [] all = refl
 sigs_again own names up (s ∷ ss) all =
-    ap₂ (λ x xs. x ∷ xs) (ap (λ stacks. record { depth = s.depth; stacks = stacks }) (stacks_again own names up s.stacks (All-head (IsNamed names) s ss all)))
+    ap₂ (λ x xs. x ∷ xs) (ap (λ stacks. record { depth = s.depth; stacks = stacks; on = s.on; yields = s.yields }) (stacks_again own names up s.stacks (All-head (IsNamed names) s ss all)))
     (sigs_again own names up ss (All-tail (IsNamed names) s ss all))

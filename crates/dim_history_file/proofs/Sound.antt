@@ -16,6 +16,8 @@ use Rattle.dim_signature.specs.Sig.{Sig, IsSig}
 use Rattle.dim_signature.specs.Sorted.{AreSorted}
 use Rattle.dim_signature.specs.Catalogue.{IsCatalogue, has_stacks}
 use Rattle.dim_signature.proofs.Numbers.{has_stacks-Decides}
+use Rattle.dim_history_file.specs.declared.opening.Opening.{Opening}
+use Rattle.dim_history_file.specs.declared.version.Version.{Version}
 use Rattle.dim_history_file.specs.Value.{NamedFrame, NamedSig, named_frame, named_stack, named_sig, named, AreNamed}
 use Rattle.dim_history_file.specs.Spelling.{Line, HeadLine, SignatureLine, StackLine, open_lines, spelled_frame, gap, spelled, sig_lines, lines_before_end, text_of}
 use Rattle.dim_history_file.specs.Grammar.{IsFrame, IsStack, IsSignature, AreDistinct, IsHistory, AreNear, IsSized, AreSized}
@@ -55,6 +57,7 @@ module _ (names : List (List ℕ)) (table : IsTable names) where
     few = omega (arith, length-map s.stacks (named_stack names), is.few);
     stacks = stacks_sound s.stacks h sized near;
     sorted = in_order_named names table.ascending s.stacks h sorted;
+    yields = is.yields;
   }
 
   abbrev NamedOne : Sig → Type 0
@@ -95,10 +98,10 @@ pub map_one_more : {X Y : Type 0} (f : X → Y) (xs : List X) (i : ℕ) (x : X) 
 map_one_more f xs i x h = ap (map f) (take_one_more xs i x h) ∙ map_push f (take i xs) x
 
 -- the text down to one signature more
-pub text_more : (sigs : List NamedSig) (s : NamedSig) → text_of (lines_before_end (sigs ++ s ∷ [])) ≡ text_of (lines_before_end sigs) ++ text_of (sig_lines s)
-text_more sigs s =
-    ap (λ ls. text_of (HeadLine ∷ ls)) (flat_map-append sig_lines sigs (s ∷ []) ∙ ap (λ ls. flat_map sig_lines sigs ++ ls) (append-nil (sig_lines s)))
-    ∙ flat_map-append (λ (l : Line). ended (spelled l)) (lines_before_end sigs) (sig_lines s)
+pub text_more : (version : Version) (sigs : List NamedSig) (s : NamedSig) → text_of (lines_before_end version (sigs ++ s ∷ [])) ≡ text_of (lines_before_end version sigs) ++ text_of (sig_lines version s)
+text_more version sigs s =
+    ap (λ ls. text_of (HeadLine version ∷ ls)) (flat_map-append (sig_lines version) sigs (s ∷ []) ∙ ap (λ ls. flat_map (sig_lines version) sigs ++ ls) (append-nil (sig_lines version s)))
+    ∙ flat_map-append (λ (l : Line). ended (spelled l)) (lines_before_end version sigs) (sig_lines version s)
 
 -- a table merged with none
 pub copied_table : (names none : List (List ℕ)) → AreAscending names → none ≡ [] → table_of (names ++ none) ≡ names
@@ -133,9 +136,9 @@ frames_more names stack i f h =
     ∙ ap (λ n. line_of words ++ (gap n ++ spelled_frame (named_frame names f))) size
 
 -- the lines of a signature with one stack more
-pub lines_more : (depth count : ℕ) (stacks : List (List NamedFrame)) (s : List NamedFrame) → text_of (open_lines depth count (stacks ++ s ∷ [])) ≡ text_of (open_lines depth count stacks) ++ ended (spelled (StackLine s))
-lines_more depth count stacks s =
-    ap (λ ls. text_of (SignatureLine depth count ∷ ls)) (map_push (λ x. StackLine x) stacks s) ∙ text-push (open_lines depth count stacks) (StackLine s)
+pub lines_more : (version : Version) (o : Opening) (stacks : List (List NamedFrame)) (s : List NamedFrame) → text_of (open_lines version o (stacks ++ s ∷ [])) ≡ text_of (open_lines version o stacks) ++ ended (spelled (StackLine s))
+lines_more version o stacks s =
+    ap (λ ls. text_of (SignatureLine version o ∷ ls)) (map_push (λ x. StackLine x) stacks s) ∙ text-push (open_lines version o stacks) (StackLine s)
 
 -- ---- offsets, by numbers and by names
 all_to : {X Y : Type 0} (f : X → Y) (P : X → Type 0) (Q : Y → Type 0) → ((x : X) → P x → Q (f x)) → (xs : List X) → All P xs → AllByRecursion Q (map f xs)

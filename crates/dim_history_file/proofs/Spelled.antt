@@ -1,5 +1,5 @@
--- The text of a history is read as that history.
-use Rattle.std.proofs.Common.{◌≡◌, ◌<◌, ◌≤◌, ◌+◌, ◌^◌, ℕ, true, false, List, [], ◌∷◌, ◌++◌, length, map, Some, Result, Ok, arith, refl, sym, ap, ◌∙◌, subst, append_assoc, append-nil}
+-- A text of a history is read as that history.
+use Rattle.std.proofs.Common.{◌≡◌, ◌<◌, ◌≤◌, ◌+◌, ◌^◌, ℕ, Bool, true, false, ◌||◌, List, [], ◌∷◌, ◌++◌, length, map, Some, Result, Ok, arith, refl, sym, ap, ap₂, ◌∙◌, subst, append_assoc, append-nil}
 use Rattle.std.specs.Prelude.{◌==◌, not, codes}
 use Rattle.std.specs.Int.{IsInRange}
 use Rattle.std.specs.List.{AllByRecursion, flat_map, list_all}
@@ -13,19 +13,22 @@ use Rattle.dim_text.specs.Cuts.{lines_of, words_of, line_of, ended, HasNo}
 use Rattle.dim_text.specs.Naming.{name_of, is_name_byte}
 use Rattle.dim_text.specs.Reading.{read_from}
 use Rattle.dim_text.proofs.Cutting.{words_of-line_of, sides_of-frame_word}
-use Rattle.dim_text.proofs.Digits.{number_of-decimal, HasNo-decimal}
+use Rattle.dim_text.proofs.Digits.{number_of-decimal, number_of-Some, HasNo-decimal}
 use Rattle.dim_text.proofs.NameLemmas.{HasNo-name}
 use Rattle.dim_text.proofs.ReadingLemmas.{read_from-line}
 use Rattle.dim_text.specs.Words.{filled, has_sides}
-use Rattle.dim_text.specs.Numerals.{number_from}
+use Rattle.dim_text.specs.Numerals.{number_from, number_of}
 use Rattle.dim_history_file.specs.declared.fault.FileKind.{FileKind}
 use Rattle.dim_history_file.specs.declared.fault.FileKind.TheVariants as kind
 use Rattle.dim_history_file.specs.declared.fault.FileFault.{FileFault}
+use Rattle.dim_history_file.specs.declared.opening.Opening.{Opening}
+use Rattle.dim_history_file.specs.declared.version.Version.{Version}
+use Rattle.dim_history_file.specs.declared.version.Version.TheVariants.{One, Two}
 use Rattle.dim_history_file.specs.Faults.{fault}
-use Rattle.dim_history_file.specs.Value.{NamedFrame, NamedSig, have_stacks}
-use Rattle.dim_history_file.specs.Judging.{Begun, Due, Within, Closed, State, frame_of, frames_of, stack_of, head_line, signature_line, end_line, due_line, is_less_than_last, with_stack, stack_line, step, at_end, start, history_of}
-use Rattle.dim_history_file.specs.Spelling.{Line, HeadLine, SignatureLine, StackLine, EndLine, spelled_frame, spelled, sig_lines, text_of, history_text}
-use Rattle.dim_history_file.specs.Grammar.{IsFrame, IsStack, AreInOrder, IsSignature, AreDistinct, IsHistory}
+use Rattle.dim_history_file.specs.Value.{NamedFrame, NamedSig, renewed, migrated, same_stacks, have_stacks}
+use Rattle.dim_history_file.specs.Judging.{Form, Begun, Due, Within, Closed, State, frame_of, frames_of, stack_of, signature_with, state_in, short_form, long_form, form_of, opening_of, head_line, signature_line, end_line, due_line, is_less_than_last, with_stack, stack_line, step, at_end, start, history_of}
+use Rattle.dim_history_file.specs.Spelling.{Line, HeadLine, SignatureLine, StackLine, EndLine, spelled_frame, state_word, opening_words, spelled, opening_for, sig_lines, text_of, text_in, history_text}
+use Rattle.dim_history_file.specs.Grammar.{CanSay, CanSayAll, IsFrame, IsStack, AreInOrder, IsSignature, AreDistinct, IsHistory}
 use Rattle.dim_history_file.proofs.Comparing.{distinct-front}
 
 -- ---- bytes that words don't have
@@ -92,16 +95,47 @@ Reads s n bytes = read_from fault step at_end s n (lines_of bytes)
 one_line : (s t : State) (n : ℕ) (x : Line) (rest : List ℕ) → HasNo 10 (spelled x) → step s (spelled x) ≡ Ok t → Reads s n (ended (spelled x) ++ rest) ≡ Reads t (n + 1) rest
 one_line s t n x rest none taken = read_from-line fault step at_end s t n (spelled x) rest none taken
 
-pub head_has_no : HasNo 10 (spelled HeadLine)
-head_has_no = word_has_no 10 (spelled HeadLine) refl
+pub head_has_no : (version : Version) → HasNo 10 (spelled (HeadLine version))
+head_has_no One = word_has_no 10 (spelled (HeadLine One)) refl
+head_has_no Two = word_has_no 10 (spelled (HeadLine Two)) refl
 
-head_taken : step start (spelled HeadLine) ≡ Ok (record { stage = Due; sigs = [] })
+head_taken : (version : Version) → step start (spelled (HeadLine version)) ≡ Ok (record { version = version; stage = Due; sigs = [] })
 unfolding step head_line
-head_taken = refl
+head_taken One = refl
+head_taken Two = refl
 
-pub signature_has_no : (depth count : ℕ) → depth ≤ 32 → count ≤ 32 → (c : ℕ) → c < 48 → list_all (λ b. not (b == c)) (codes "signature") ≡ true → AllByRecursion (HasNo c) (codes "signature" ∷ decimal depth ∷ decimal count ∷ [])
-signature_has_no depth count d e c h word =
-    (word_has_no c (codes "signature") word, (number_has_no c depth h (omega (arith, d)), (number_has_no c count h (omega (arith, e)), tt)))
+-- what the line of a signature says is in range
+pub record IsOpening (o : Opening) : Type 0 where
+  pub low : 1 ≤ o.depth
+  pub high : o.depth ≤ 32
+  pub some : 2 ≤ o.count
+  pub few : o.count ≤ 32
+  pub yields : o.yields ≤ 4294967295
+
+-- a byte below the digits that no fixed word has
+pub record IsApart (c : ℕ) : Type 0 where
+  pub low : c < 48
+  pub signature : list_all (λ b. not (b == c)) (codes "signature") ≡ true
+  pub on : list_all (λ b. not (b == c)) (codes "on") ≡ true
+  pub off : list_all (λ b. not (b == c)) (codes "off") ≡ true
+
+pub feed_apart : IsApart 10
+feed_apart = record { low = omega arith; signature = refl; on = refl; off = refl }
+
+pub space_apart : IsApart 32
+space_apart = record { low = omega arith; signature = refl; on = refl; off = refl }
+
+state_has_no : (c : ℕ) (on : Bool) → IsApart c → HasNo c (state_word on)
+state_has_no c true h = word_has_no c (codes "on") h.on
+state_has_no c false h = word_has_no c (codes "off") h.off
+
+pub signature_has_no : (version : Version) (o : Opening) → IsOpening o → (c : ℕ) → IsApart c → AllByRecursion (HasNo c) (codes "signature" ∷ opening_words version o)
+signature_has_no One o is c h =
+    (word_has_no c (codes "signature") h.signature, (number_has_no c o.depth h.low (omega (arith, is.high)), (number_has_no c o.count h.low (omega (arith, is.few)), tt)))
+signature_has_no Two o is c h = (
+  word_has_no c (codes "signature") h.signature,
+  (number_has_no c o.depth h.low (omega (arith, is.high)), (number_has_no c o.count h.low (omega (arith, is.few)), (state_has_no c o.on h, (number_has_no c o.yields h.low (omega (arith, is.yields)), tt)))),
+)
 
 filled_number : (n : ℕ) → n < 2 ^ 64 → ◌≡◌ {A = Result (List ℕ) FileKind} (filled (decimal n) kind.Line) (Ok (decimal n))
 filled_number n small = go (decimal n) (decimal_nonempty n small)
@@ -110,41 +144,85 @@ filled_number n small = go (decimal n) (decimal_nonempty n small)
     go [] h = absurd (omega arith)
     go (c ∷ cs) h = refl
 
-signature_words : (sigs : List NamedSig) (depth count : ℕ) → length sigs < 4096 → 1 ≤ depth → depth ≤ 32 → 2 ≤ count → count ≤ 32
-    → due_line sigs (codes "signature" ∷ decimal depth ∷ decimal count ∷ []) ≡ Ok (record { stage = Within (record { depth = depth; count = count; stacks = [] }); sigs = sigs })
-unfolding due_line signature_line
-signature_words sigs depth count room l h l2 h2 =
+-- the words of a form that is spelled so
+abbrev form_for : Opening → Form
+form_for o = record { depth = decimal o.depth; count = decimal o.count; on = o.on; yields = decimal o.yields }
+
+abbrev form_with : List ℕ → List ℕ → Bool → List ℕ → Result Form FileKind
+form_with depth count on yields = Ok (record { depth = depth; count = count; on = on; yields = yields })
+
+state_read : (on : Bool) → (filled (state_word on) kind.Line ≡ Ok (state_word on)) × (state_in (state_word on) ≡ Some on)
+state_read true = (refl, refl)
+state_read false = (refl, refl)
+
+-- nought is spelled so
+nought : codes "0" ≡ decimal 0
+unfolding number_of
+nought = (number_of-Some 4294967295 0 (codes "0") (omega arith) refl).1
+
+spelled_form : (version : Version) (o : Opening) → IsOpening o → CanSay version o.on o.yields → form_of version (opening_words version o) ≡ Ok (form_for o)
+unfolding short_form long_form
+spelled_form One o is says =
+    rw (filled_number o.depth (omega (arith, is.high)), filled_number o.count (omega (arith, is.few)))
+    (ap (λ on. form_with (decimal o.depth) (decimal o.count) on (codes "0")) (sym says.0)
+      ∙ ap (λ word. form_with (decimal o.depth) (decimal o.count) o.on word) nought
+      ∙ ap (λ n. form_with (decimal o.depth) (decimal o.count) o.on (decimal n)) (sym says.1))
+spelled_form Two o is says =
     rw (
-      filled_number depth (omega (arith, h)),
-      filled_number count (omega (arith, h2)),
-      ne_eqb (length sigs) 4096 (λ e. omega (arith, room, e)),
-      spelled_number 1 32 depth (omega arith) l h,
-      spelled_number 2 32 count (omega arith) l2 h2,
+      filled_number o.depth (omega (arith, is.high)),
+      filled_number o.count (omega (arith, is.few)),
+      (state_read o.on).0,
+      filled_number o.yields (omega (arith, is.yields)),
+      (state_read o.on).1,
     ) refl
 
-signature_taken : (sigs : List NamedSig) (depth count : ℕ) → length sigs < 4096 → 1 ≤ depth → depth ≤ 32 → 2 ≤ count → count ≤ 32
-    → step (record { stage = Due; sigs = sigs }) (spelled (SignatureLine depth count)) ≡ Ok (record { stage = Within (record { depth = depth; count = count; stacks = [] }); sigs = sigs })
+spelled_opening : (o : Opening) → IsOpening o → opening_of (form_for o) ≡ Ok o
+unfolding opening_of
+spelled_opening o is =
+    rw (
+      spelled_number 1 32 o.depth (omega arith) is.low is.high,
+      spelled_number 2 32 o.count (omega arith) is.some is.few,
+      number_of-decimal 4294967295 o.yields (omega arith) is.yields,
+    ) refl
+
+abbrev opened : Version → List NamedSig → Opening → State
+opened version sigs o = record { version = version; stage = Within (record { opening = o; stacks = [] }); sigs = sigs }
+
+abbrev due : Version → List NamedSig → State
+due version sigs = record { version = version; stage = Due; sigs = sigs }
+
+abbrev closed : Version → List NamedSig → State
+closed version sigs = record { version = version; stage = Closed; sigs = sigs }
+
+signature_words : (version : Version) (sigs : List NamedSig) (o : Opening) → length sigs < 4096 → IsOpening o → CanSay version o.on o.yields
+    → due_line version sigs (codes "signature" ∷ opening_words version o) ≡ Ok (opened version sigs o)
+unfolding due_line signature_line
+signature_words version sigs o room is says =
+    rw (spelled_form version o is says, ne_eqb (length sigs) 4096 (λ e. omega (arith, room, e)), spelled_opening o is) refl
+
+signature_taken : (version : Version) (sigs : List NamedSig) (o : Opening) → length sigs < 4096 → IsOpening o → CanSay version o.on o.yields
+    → step (due version sigs) (spelled (SignatureLine version o)) ≡ Ok (opened version sigs o)
 unfolding step
-signature_taken sigs depth count room l h l2 h2 =
-    ap (due_line sigs) (words_of-line_of (codes "signature") (decimal depth ∷ decimal count ∷ []) (signature_has_no depth count h h2 32 (omega arith) refl))
-    ∙ signature_words sigs depth count room l h l2 h2
+signature_taken version sigs o room is says =
+    ap (due_line version sigs) (words_of-line_of (codes "signature") (opening_words version o) (signature_has_no version o is 32 space_apart))
+    ∙ signature_words version sigs o room is says
 
 pub end_has_no : (n : ℕ) → n ≤ 4096 → (c : ℕ) → c < 48 → list_all (λ b. not (b == c)) (codes "end") ≡ true → AllByRecursion (HasNo c) (codes "end" ∷ decimal n ∷ [])
 end_has_no n h c small word = (word_has_no c (codes "end") word, (number_has_no c n small (omega (arith, h)), tt))
 
-end_words : (sigs : List NamedSig) → length sigs ≤ 4096 → due_line sigs (codes "end" ∷ decimal (length sigs) ∷ []) ≡ Ok (record { stage = Closed; sigs = sigs })
+end_words : (version : Version) (sigs : List NamedSig) → length sigs ≤ 4096 → due_line version sigs (codes "end" ∷ decimal (length sigs) ∷ []) ≡ Ok (closed version sigs)
 unfolding due_line end_line
-end_words sigs h =
+end_words version sigs h =
     rw (
       filled_number (length sigs) (omega (arith, h)),
       number_of-decimal 4096 (length sigs) (omega arith) h,
       eq-eqb (length sigs) (length sigs) refl,
     ) refl
 
-end_taken : (sigs : List NamedSig) → length sigs ≤ 4096 → step (record { stage = Due; sigs = sigs }) (spelled (EndLine (length sigs))) ≡ Ok (record { stage = Closed; sigs = sigs })
+end_taken : (version : Version) (sigs : List NamedSig) → length sigs ≤ 4096 → step (due version sigs) (spelled (EndLine (length sigs))) ≡ Ok (closed version sigs)
 unfolding step
-end_taken sigs h =
-    ap (due_line sigs) (words_of-line_of (codes "end") (decimal (length sigs) ∷ []) (end_has_no (length sigs) h 32 (omega arith) refl)) ∙ end_words sigs h
+end_taken version sigs h =
+    ap (due_line version sigs) (words_of-line_of (codes "end") (decimal (length sigs) ∷ []) (end_has_no (length sigs) h 32 (omega arith) refl)) ∙ end_words version sigs h
 
 pub stack_has_no : (stack : List NamedFrame) → IsStack stack → HasNo 10 (spelled (StackLine stack))
 stack_has_no stack is = line_has_no (map spelled_frame stack) (frames_have_no 10 stack refl (not_range 10 (omega arith)) (λ e. omega (arith, e)) is.frames)
@@ -156,10 +234,10 @@ words_of_stack stack is = go stack is.some (frames_have_no 32 stack refl (not_ra
     go [] some h = absurd (omega arith)
     go (f ∷ fs) some h = words_of-line_of (spelled_frame f) (map spelled_frame fs) h
 
-stack_taken : (sigs : List NamedSig) (b : Begun) (stack : List NamedFrame) (t : State) → IsStack stack → is_less_than_last stack b.stacks ≡ false → with_stack sigs b (b.stacks ++ stack ∷ []) ≡ Ok t
-    → step (record { stage = Within b; sigs = sigs }) (spelled (StackLine stack)) ≡ Ok t
+stack_taken : (version : Version) (sigs : List NamedSig) (b : Begun) (stack : List NamedFrame) (t : State) → IsStack stack → is_less_than_last stack b.stacks ≡ false → with_stack version sigs b (b.stacks ++ stack ∷ []) ≡ Ok t
+    → step (record { version = version; stage = Within b; sigs = sigs }) (spelled (StackLine stack)) ≡ Ok t
 unfolding step stack_line
-stack_taken sigs b stack t is after e = rw (words_of_stack stack is, spelled_stack stack is, after) e
+stack_taken version sigs b stack t is after e = rw (words_of_stack stack is, spelled_stack stack is, after) e
 
 -- ---- the stacks of a signature
 not_less : (done : List (List NamedFrame)) (x : List NamedFrame) (rest : List (List NamedFrame)) → AreInOrder (done ++ x ∷ rest) → is_less_than_last x done ≡ false
@@ -171,94 +249,152 @@ all_at : {X : Type 0} (P : X → Type 0) (front : List X) (x : X) (rest : List X
 all_at P [] x rest h = h.0
 all_at P (y ∷ front) x rest h = all_at P front x rest h.1
 
-abbrev midway : List NamedSig → ℕ → ℕ → List (List NamedFrame) → State
-midway sigs depth count done = record { stage = Within (record { depth = depth; count = count; stacks = done }); sigs = sigs }
+abbrev midway : Version → List NamedSig → Opening → List (List NamedFrame) → State
+midway version sigs o done = record { version = version; stage = Within (record { opening = o; stacks = done }); sigs = sigs }
 
-abbrev behind : List NamedSig → NamedSig → State
-behind sigs s = record { stage = Due; sigs = sigs ++ s ∷ [] }
+abbrev behind : Version → List NamedSig → NamedSig → State
+behind version sigs s = due version (sigs ++ s ∷ [])
 
 abbrev stack_lines : List (List NamedFrame) → List ℕ
 stack_lines stacks = text_of (map (λ stack. StackLine stack) stacks)
 
 -- the last stack, and one before it
-last_with : (sigs : List NamedSig) (b : Begun) (stacks : List (List NamedFrame)) → length stacks ≡ b.count → have_stacks sigs stacks ≡ false
-    → with_stack sigs b stacks ≡ Ok (behind sigs (record { depth = b.depth; stacks = stacks }))
-last_with sigs b stacks size new = rw (eq-eqb (length stacks) b.count size, new) refl
+last_with : (version : Version) (sigs : List NamedSig) (b : Begun) (stacks : List (List NamedFrame)) → length stacks ≡ b.opening.count → have_stacks sigs stacks ≡ false
+    → with_stack version sigs b stacks ≡ Ok (behind version sigs (signature_with b.opening stacks))
+last_with version sigs b stacks size new = rw (eq-eqb (length stacks) b.opening.count size, new) refl
 
-next_with : (sigs : List NamedSig) (b : Begun) (stacks : List (List NamedFrame)) → (length stacks ≡ b.count → ⊥) → with_stack sigs b stacks ≡ Ok (midway sigs b.depth b.count stacks)
-next_with sigs b stacks other = rw (ne_eqb (length stacks) b.count other) refl
+next_with : (version : Version) (sigs : List NamedSig) (b : Begun) (stacks : List (List NamedFrame)) → (length stacks ≡ b.opening.count → ⊥) → with_stack version sigs b stacks ≡ Ok (midway version sigs b.opening stacks)
+next_with version sigs b stacks other = rw (ne_eqb (length stacks) b.opening.count other) refl
 
-read_stacks : (sigs : List NamedSig) (depth count : ℕ) (done rest whole : List (List NamedFrame)) (n : ℕ) (tail : List ℕ) → 1 ≤ length rest → done ++ rest ≡ whole → length whole ≡ count
+read_stacks : (version : Version) (sigs : List NamedSig) (o : Opening) (done rest whole : List (List NamedFrame)) (n : ℕ) (tail : List ℕ) → 1 ≤ length rest → done ++ rest ≡ whole → length whole ≡ o.count
     → AllByRecursion IsStack whole → AreInOrder whole → have_stacks sigs whole ≡ false
-    → (m : ℕ) × (Reads (midway sigs depth count done) n (stack_lines rest ++ tail) ≡ Reads (behind sigs (record { depth = depth; stacks = whole })) m tail)
-read_stacks sigs depth count done [] whole n tail some e size all sorted new = absurd (omega arith)
-read_stacks sigs depth count done (x ∷ []) whole n tail some e size all sorted new =
-    let b : Begun = record { depth = depth; count = count; stacks = done } in
+    → (m : ℕ) × (Reads (midway version sigs o done) n (stack_lines rest ++ tail) ≡ Reads (behind version sigs (signature_with o whole)) m tail)
+read_stacks version sigs o done [] whole n tail some e size all sorted new = absurd (omega arith)
+read_stacks version sigs o done (x ∷ []) whole n tail some e size all sorted new =
+    let b : Begun = record { opening = o; stacks = done } in
     let is = all_at IsStack done x [] (subst (AllByRecursion IsStack) (sym e) all) in
     let after = not_less done x [] (subst AreInOrder (sym e) sorted) in
-    let ends = ap (with_stack sigs b) e ∙ last_with sigs b whole size new in (
+    let ends = ap (with_stack version sigs b) e ∙ last_with version sigs b whole size new in (
       n + 1,
-      ap (λ t. Reads (midway sigs depth count done) n (t ++ tail)) (append-nil (ended (spelled (StackLine x))))
-          ∙ one_line (midway sigs depth count done) (behind sigs (record { depth = depth; stacks = whole })) n (StackLine x) tail (stack_has_no x is)
-          (stack_taken sigs b x (behind sigs (record { depth = depth; stacks = whole })) is after ends),
+      ap (λ t. Reads (midway version sigs o done) n (t ++ tail)) (append-nil (ended (spelled (StackLine x))))
+          ∙ one_line (midway version sigs o done) (behind version sigs (signature_with o whole)) n (StackLine x) tail (stack_has_no x is)
+          (stack_taken version sigs b x (behind version sigs (signature_with o whole)) is after ends),
     )
-read_stacks sigs depth count done (x ∷ y ∷ rest) whole n tail some e size all sorted new =
-    let b : Begun = record { depth = depth; count = count; stacks = done } in
+read_stacks version sigs o done (x ∷ y ∷ rest) whole n tail some e size all sorted new =
+    let b : Begun = record { opening = o; stacks = done } in
     let is = all_at IsStack done x (y ∷ rest) (subst (AllByRecursion IsStack) (sym e) all) in
     let after = not_less done x (y ∷ rest) (subst AreInOrder (sym e) sorted) in
-    let other : length (done ++ x ∷ []) ≡ count → ⊥ = λ f. omega (arith, f, size, ap length (sym e), length-append done (x ∷ y ∷ rest), length_push done x) in
-    let goes = next_with sigs b (done ++ x ∷ []) other in
-    let more = read_stacks sigs depth count (done ++ x ∷ []) (y ∷ rest) whole (n + 1) tail (omega arith) (append_assoc done (x ∷ []) (y ∷ rest) ∙ e) size all sorted new in (
+    let other : length (done ++ x ∷ []) ≡ o.count → ⊥ = λ f. omega (arith, f, size, ap length (sym e), length-append done (x ∷ y ∷ rest), length_push done x) in
+    let goes = next_with version sigs b (done ++ x ∷ []) other in
+    let more = read_stacks version sigs o (done ++ x ∷ []) (y ∷ rest) whole (n + 1) tail (omega arith) (append_assoc done (x ∷ []) (y ∷ rest) ∙ e) size all sorted new in (
       more.0,
-      ap (Reads (midway sigs depth count done) n) (append_assoc (ended (spelled (StackLine x))) (stack_lines (y ∷ rest)) tail)
-          ∙ one_line (midway sigs depth count done) (midway sigs depth count (done ++ x ∷ [])) n (StackLine x) (stack_lines (y ∷ rest) ++ tail) (stack_has_no x is)
-          (stack_taken sigs b x (midway sigs depth count (done ++ x ∷ [])) is after goes)
+      ap (Reads (midway version sigs o done) n) (append_assoc (ended (spelled (StackLine x))) (stack_lines (y ∷ rest)) tail)
+          ∙ one_line (midway version sigs o done) (midway version sigs o (done ++ x ∷ [])) n (StackLine x) (stack_lines (y ∷ rest) ++ tail) (stack_has_no x is)
+          (stack_taken version sigs b x (midway version sigs o (done ++ x ∷ [])) is after goes)
           ∙ more.1,
     )
 
 -- ---- the signatures
-abbrev tail_of : List NamedSig → List NamedSig → List ℕ
-tail_of whole rest = text_of (flat_map sig_lines rest) ++ ended (spelled (EndLine (length whole)))
+abbrev tail_of : Version → List NamedSig → List NamedSig → List ℕ
+tail_of version whole rest = text_of (flat_map (sig_lines version) rest) ++ ended (spelled (EndLine (length whole)))
 
-read_end : (sigs : List NamedSig) (n : ℕ) → Reads (record { stage = Closed; sigs = sigs }) n [] ≡ Ok sigs
+read_end : (version : Version) (sigs : List NamedSig) (n : ℕ) → Reads (closed version sigs) n [] ≡ Ok sigs
 unfolding read_from at_end
-read_end sigs n = refl
+read_end version sigs n = refl
 
-read_sigs : (front rest whole : List NamedSig) (n : ℕ) → front ++ rest ≡ whole → IsHistory whole → Reads (record { stage = Due; sigs = front }) n (tail_of whole rest) ≡ Ok whole
-read_sigs front [] whole n e h =
+pub is_opening : (s : NamedSig) → IsSignature s → IsOpening (opening_for s)
+is_opening s is = record { low = is.low; high = is.high; some = is.some; few = is.few; yields = is.yields }
+
+read_sigs : (version : Version) (front rest whole : List NamedSig) (n : ℕ) → front ++ rest ≡ whole → IsHistory whole → CanSayAll version whole → Reads (due version front) n (tail_of version whole rest) ≡ Ok whole
+read_sigs version front [] whole n e h says =
     let same : front ≡ whole = sym (append-nil front) ∙ e in
-    subst (λ sigs. Reads (record { stage = Due; sigs = sigs }) n (tail_of whole []) ≡ Ok whole) (sym same) (
-    ap (Reads (record { stage = Due; sigs = whole }) n) (sym (append-nil (ended (spelled (EndLine (length whole))))))
-    ∙ one_line (record { stage = Due; sigs = whole }) (record { stage = Closed; sigs = whole }) n (EndLine (length whole)) []
+    subst (λ sigs. Reads (due version sigs) n (tail_of version whole []) ≡ Ok whole) (sym same) (
+    ap (Reads (due version whole) n) (sym (append-nil (ended (spelled (EndLine (length whole))))))
+    ∙ one_line (due version whole) (closed version whole) n (EndLine (length whole)) []
     (line_has_no (codes "end" ∷ decimal (length whole) ∷ []) (end_has_no (length whole) h.few 10 (omega arith) refl))
-    (end_taken whole h.few)
-    ∙ read_end whole (n + 1)
+    (end_taken version whole h.few)
+    ∙ read_end version whole (n + 1)
     )
-read_sigs front (s ∷ rest) whole n e h =
+read_sigs version front (s ∷ rest) whole n e h says =
     let is = all_at IsSignature front s rest (subst (AllByRecursion IsSignature) (sym e) h.signatures) in
+    let said = all_at (λ (x : NamedSig). CanSay version x.on x.yields) front s rest (subst (CanSayAll version) (sym e) says) in
     let new = distinct-front front s rest (subst AreDistinct (sym e) h.distinct) in
     let room : length front < 4096 = omega (arith, h.few, ap length (sym e), length-append front (s ∷ rest)) in
-    let count = length s.stacks in
-    let first = SignatureLine s.depth count in
-    let tail = tail_of whole rest in
-    let stacks = read_stacks front s.depth count [] s.stacks s.stacks (n + 1) tail (omega (arith, is.some)) refl refl is.stacks is.sorted new in
-    let text : tail_of whole (s ∷ rest) ≡ ended (spelled first) ++ (stack_lines s.stacks ++ tail) =
-    ap (λ t. t ++ ended (spelled (EndLine (length whole)))) (flat_map-append (λ l. ended (spelled l)) (sig_lines s) (flat_map sig_lines rest))
-    ∙ append_assoc (text_of (sig_lines s)) (text_of (flat_map sig_lines rest)) (ended (spelled (EndLine (length whole))))
+    let o = opening_for s in
+    let first = SignatureLine version o in
+    let tail = tail_of version whole rest in
+    let stacks = read_stacks version front o [] s.stacks s.stacks (n + 1) tail (omega (arith, is.some)) refl refl is.stacks is.sorted new in
+    let text : tail_of version whole (s ∷ rest) ≡ ended (spelled first) ++ (stack_lines s.stacks ++ tail) =
+    ap (λ t. t ++ ended (spelled (EndLine (length whole)))) (flat_map-append (λ l. ended (spelled l)) (sig_lines version s) (flat_map (sig_lines version) rest))
+    ∙ append_assoc (text_of (sig_lines version s)) (text_of (flat_map (sig_lines version) rest)) (ended (spelled (EndLine (length whole))))
     ∙ append_assoc (ended (spelled first)) (stack_lines s.stacks) tail in
-    ap (Reads (record { stage = Due; sigs = front }) n) text
-    ∙ one_line (record { stage = Due; sigs = front }) (midway front s.depth count []) n first (stack_lines s.stacks ++ tail)
-    (line_has_no (codes "signature" ∷ decimal s.depth ∷ decimal count ∷ []) (signature_has_no s.depth count is.high is.few 10 (omega arith) refl))
-    (signature_taken front s.depth count room is.low is.high is.some is.few)
+    ap (Reads (due version front) n) text
+    ∙ one_line (due version front) (midway version front o []) n first (stack_lines s.stacks ++ tail)
+    (line_has_no (codes "signature" ∷ opening_words version o) (signature_has_no version o (is_opening s is) 10 feed_apart))
+    (signature_taken version front o room (is_opening s is) said)
     ∙ stacks.1
-    ∙ read_sigs (front ++ s ∷ []) rest whole stacks.0 (append_assoc front (s ∷ []) rest ∙ e) h
+    ∙ read_sigs version (front ++ s ∷ []) rest whole stacks.0 (append_assoc front (s ∷ []) rest ∙ e) h says
+
+pub read_text : (version : Version) (sigs : List NamedSig) → IsHistory sigs → CanSayAll version sigs → history_of (text_in version sigs) ≡ Ok sigs
+read_text version sigs h says =
+    let last = EndLine (length sigs) ∷ [] in
+    let body = flat_map (sig_lines version) sigs in
+    let text : text_in version sigs ≡ ended (spelled (HeadLine version)) ++ tail_of version sigs sigs =
+    ap (λ t. ended (spelled (HeadLine version)) ++ t) (flat_map-append (λ l. ended (spelled l)) body last ∙ ap (λ t. text_of body ++ t) (append-nil (ended (spelled (EndLine (length sigs)))))) in
+    ap (Reads start 1) text
+    ∙ one_line start (due version []) 1 (HeadLine version) (tail_of version sigs sigs) (head_has_no version) (head_taken version)
+    ∙ read_sigs version [] sigs sigs 2 refl h says
+
+-- ---- both versions
+all_said : (sigs : List NamedSig) → CanSayAll Two sigs
+all_said [] = tt
+all_said (s ∷ sigs) = (tt, all_said sigs)
 
 pub read_again : (sigs : List NamedSig) → IsHistory sigs → history_of (history_text sigs) ≡ Ok sigs
-read_again sigs h =
-    let last = EndLine (length sigs) ∷ [] in
-    let body = flat_map sig_lines sigs in
-    let text : history_text sigs ≡ ended (spelled HeadLine) ++ tail_of sigs sigs =
-    ap (λ t. ended (spelled HeadLine) ++ t) (flat_map-append (λ l. ended (spelled l)) body last ∙ ap (λ t. text_of body ++ t) (append-nil (ended (spelled (EndLine (length sigs)))))) in
-    ap (Reads start 1) text
-    ∙ one_line start (record { stage = Due; sigs = [] }) 1 HeadLine (tail_of sigs sigs) head_has_no head_taken
-    ∙ read_sigs [] sigs sigs 2 refl h
+read_again sigs h = read_text Two sigs h (all_said sigs)
+
+-- version 1 says of a history what it says of it with all states on and no yields
+plain_said : (sigs : List NamedSig) → CanSayAll One (migrated sigs)
+plain_said [] = tt
+plain_said (s ∷ sigs) = ((refl, refl), plain_said sigs)
+
+plain_lines : (sigs : List NamedSig) → text_of (flat_map (sig_lines One) (migrated sigs)) ≡ text_of (flat_map (sig_lines One) sigs)
+plain_lines [] = refl
+plain_lines (s ∷ sigs) =
+    flat_map-append (λ l. ended (spelled l)) (sig_lines One (renewed s)) (flat_map (sig_lines One) (migrated sigs))
+    ∙ ap (λ t. text_of (sig_lines One s) ++ t) (plain_lines sigs)
+    ∙ sym (flat_map-append (λ l. ended (spelled l)) (sig_lines One s) (flat_map (sig_lines One) sigs))
+
+plain_text : (sigs : List NamedSig) → text_in One (migrated sigs) ≡ text_in One sigs
+plain_text sigs =
+    let whole = λ (ss : List NamedSig). flat_map-append (λ l. ended (spelled l)) (flat_map (sig_lines One) ss) (EndLine (length ss) ∷ []) in
+    ap (λ t. ended (spelled (HeadLine One)) ++ t) (
+    whole (migrated sigs)
+    ∙ ap₂ (λ a n. a ++ text_of (EndLine n ∷ [])) (plain_lines sigs) (length-map sigs renewed)
+    ∙ sym (whole sigs)
+    )
+
+plain_have : (sigs : List NamedSig) (stacks : List (List NamedFrame)) → have_stacks (migrated sigs) stacks ≡ have_stacks sigs stacks
+plain_have [] stacks = refl
+plain_have (s ∷ sigs) stacks = ap (λ b. same_stacks s.stacks stacks || b) (plain_have sigs stacks)
+
+plain_distinct : (sigs : List NamedSig) → AreDistinct sigs → AreDistinct (migrated sigs)
+plain_distinct [] h = tt
+plain_distinct (s ∷ sigs) h = (plain_have sigs s.stacks ∙ h.0, plain_distinct sigs h.1)
+
+plain_signatures : (sigs : List NamedSig) → AllByRecursion IsSignature sigs → AllByRecursion IsSignature (migrated sigs)
+plain_signatures [] h = tt
+plain_signatures (s ∷ sigs) h = (
+  record { low = h.0.low; high = h.0.high; some = h.0.some; few = h.0.few; stacks = h.0.stacks; sorted = h.0.sorted; yields = omega arith },
+  plain_signatures sigs h.1,
+)
+
+pub plain_history : (sigs : List NamedSig) → IsHistory sigs → IsHistory (migrated sigs)
+plain_history sigs h = record {
+  few = omega (arith, length-map sigs renewed, h.few);
+  signatures = plain_signatures sigs h.signatures;
+  distinct = plain_distinct sigs h.distinct;
+}
+
+pub read_migrated : (sigs : List NamedSig) → IsHistory sigs → history_of (text_in One sigs) ≡ Ok (migrated sigs)
+read_migrated sigs h = ap history_of (sym (plain_text sigs)) ∙ read_text One (migrated sigs) (plain_history sigs h) (plain_said sigs)

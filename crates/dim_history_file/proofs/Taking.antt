@@ -19,9 +19,11 @@ use Rattle.dim_history_file.specs.declared.fault.FileKind.{FileKind}
 use Rattle.dim_history_file.specs.declared.fault.FileKind.TheVariants.{Double}
 use Rattle.dim_text.specs.declared.stop.Stop.{Stop}
 use Rattle.dim_text.specs.declared.stop.Stop.TheVariants as stop
+use Rattle.dim_history_file.specs.declared.opening.Opening.{Opening}
+use Rattle.dim_history_file.specs.declared.version.Version.{Version}
 use Rattle.dim_history_file.specs.Faults.{fault, fault_of, at_line}
 use Rattle.dim_history_file.specs.Value.{NamedFrame, NamedSig, named_stack, named_sig, named, AreNamed, stack_order, have_stacks}
-use Rattle.dim_history_file.specs.Judging.{Begun, Due, Within, State, stack_of, is_less_than_last, with_signature, with_stack, stack_line}
+use Rattle.dim_history_file.specs.Judging.{Begun, Due, Within, State, stack_of, is_less_than_last, signature_with, with_signature, with_stack, stack_line}
 use Rattle.dim_history_file.specs.Signing.{entered}
 use Rattle.dim_history_file.specs.Reader.{begun}
 use Rattle.dim_history_file.specs.Grammar.{AreInOrder}
@@ -47,29 +49,29 @@ less_named names up s xs x e p q =
     ∙ ap is_lt (sym (order_named names up s x p (all_place (IsNamedBy names) xs (length xs - 1) x e q)))
 
 -- ---- a signature that was entered
-module _ (names : List (List ℕ)) (up : AreAscending names) (sigs : List Sig) (s : Sig) (p : AreNamed names sigs) (q : All (IsNamedBy names) s.stacks) where
+module _ (version : Version) (names : List (List ℕ)) (up : AreAscending names) (sigs : List Sig) (s : Sig) (p : AreNamed names sigs) (q : All (IsNamedBy names) s.stacks) where
   abbrev whole : NamedSig
   whole = named_sig names s
 
   have : list_any (has_stacks s.stacks) sigs ≡ have_stacks (named names sigs) whole.stacks
   have = have_named names up sigs s.stacks p q
 
-  pub entered_ok : (new : List Sig) → entered sigs s ≡ Ok new → with_signature (named names sigs) whole ≡ Ok (record { stage = Due; sigs = named names new })
+  pub entered_ok : (new : List Sig) → entered sigs s ≡ Ok new → with_signature version (named names sigs) whole ≡ Ok (record { version = version; stage = Due; sigs = named names new })
   entered_ok new e =
       elim (chosen (list_any (has_stacks s.stacks) sigs) _ _ _ e) [
         | inl known ↦ cc (known.1)
         | inr other ↦
             let same : sigs ++ s ∷ [] ≡ new = cc (other.1) in
-            cond-false (have_stacks (named names sigs) whole.stacks) (Err Double) (Ok (record { stage = Due; sigs = named names sigs ++ whole ∷ [] })) (sym have ∙ other.0)
-            ∙ ap (λ ss. let t : State = record { stage = Due; sigs = ss } in Ok t) (sym (map_push (named_sig names) sigs s) ∙ ap (named names) same)
+            cond-false (have_stacks (named names sigs) whole.stacks) (Err Double) (Ok (record { version = version; stage = Due; sigs = named names sigs ++ whole ∷ [] })) (sym have ∙ other.0)
+            ∙ ap (λ ss. let t : State = record { version = version; stage = Due; sigs = ss } in Ok t) (sym (map_push (named_sig names) sigs s) ∙ ap (named names) same)
       ]
 
-  pub entered_fails : (o : Option FileKind) → Fails o (entered sigs s) → Fails o (with_signature (named names sigs) whole)
+  pub entered_fails : (o : Option FileKind) → Fails o (entered sigs s) → Fails o (with_signature version (named names sigs) whole)
   entered_fails None h = tt
   entered_fails (Some k) h =
       elim (chosen (list_any (has_stacks s.stacks) sigs) _ _ _ h) [
         | inl known ↦
-            cond-true (have_stacks (named names sigs) whole.stacks) (Err Double) (Ok (record { stage = Due; sigs = named names sigs ++ whole ∷ [] })) (sym have ∙ known.0)
+            cond-true (have_stacks (named names sigs) whole.stacks) (Err Double) (Ok (record { version = version; stage = Due; sigs = named names sigs ++ whole ∷ [] })) (sym have ∙ known.0)
             ∙ (let same : Double ≡ k = cc (known.1) in ap (λ x. Err x) same)
         | inr other ↦ cc (other.1)
       ]
@@ -84,7 +86,7 @@ module _ (names : List (List ℕ)) (up : AreAscending names) (sigs : List Sig) (
       ]
 
   -- what entering it leaves
-  pub entered_leaves : (new : List Sig) (r : Result (Unit {0}) (Stop FileKind)) → Leaves kind_of new r (entered sigs s) → Leaves kind_of (let t : State = record { stage = Due; sigs = named names new } in t) r (with_signature (named names sigs) whole)
+  pub entered_leaves : (new : List Sig) (r : Result (Unit {0}) (Stop FileKind)) → Leaves kind_of new r (entered sigs s) → Leaves kind_of (let t : State = record { version = version; stage = Due; sigs = named names new } in t) r (with_signature version (named names sigs) whole)
   entered_leaves new (Ok u) h = entered_ok new h
   entered_leaves new (Err e) h = entered_fails (kind_of e) h
 
@@ -93,25 +95,26 @@ module _ (names : List (List ℕ)) (up : AreAscending names) (sigs : List Sig) (
   entered_keeps new (Err e) h = tt
 
 -- ---- a stack line
-with_last : (sigs : List NamedSig) (b : Begun) (stacks : List (List NamedFrame)) → length stacks ≡ b.count → with_stack sigs b stacks ≡ with_signature sigs (record { depth = b.depth; stacks = stacks })
-with_last sigs b stacks e = cond-true (length stacks == b.count) _ _ (eq-eqb (length stacks) b.count e)
+with_last : (version : Version) (sigs : List NamedSig) (b : Begun) (stacks : List (List NamedFrame)) → length stacks ≡ b.opening.count → with_stack version sigs b stacks ≡ with_signature version sigs (signature_with b.opening stacks)
+with_last version sigs b stacks e = cond-true (length stacks == b.opening.count) _ _ (eq-eqb (length stacks) b.opening.count e)
 
-with_more : (sigs : List NamedSig) (b : Begun) (stacks : List (List NamedFrame)) → (length stacks ≡ b.count → ⊥) → with_stack sigs b stacks ≡ Ok (record { stage = Within (record b { stacks = stacks }); sigs = sigs })
-with_more sigs b stacks e = cond-false (length stacks == b.count) _ _ (ne_eqb (length stacks) b.count e)
+with_more : (version : Version) (sigs : List NamedSig) (b : Begun) (stacks : List (List NamedFrame)) → (length stacks ≡ b.opening.count → ⊥)
+    → with_stack version sigs b stacks ≡ Ok (record { version = version; stage = Within (record b { stacks = stacks }); sigs = sigs })
+with_more version sigs b stacks e = cond-false (length stacks == b.opening.count) _ _ (ne_eqb (length stacks) b.opening.count e)
 
-line_is : (sigs : List NamedSig) (b : Begun) (words : List (List ℕ)) (stack : List NamedFrame) → stack_of words ≡ Ok stack → is_less_than_last stack b.stacks ≡ false
-    → stack_line sigs b words ≡ with_stack sigs b (b.stacks ++ stack ∷ [])
+line_is : (version : Version) (sigs : List NamedSig) (b : Begun) (words : List (List ℕ)) (stack : List NamedFrame) → stack_of words ≡ Ok stack → is_less_than_last stack b.stacks ≡ false
+    → stack_line version sigs b words ≡ with_stack version sigs b (b.stacks ++ stack ∷ [])
 unfolding stack_line
-line_is sigs b words stack e f = rw (e, f) refl
+line_is version sigs b words stack e f = rw (e, f) refl
 
 -- a stack behind those that were read
-module _ (names : List (List ℕ)) (sigs : List NamedSig) (depth count : ℕ) (old new : List (List Frame)) (stack : List Frame) (words : List (List ℕ))
+module _ (version : Version) (names : List (List ℕ)) (sigs : List NamedSig) (o : Opening) (old new : List (List Frame)) (stack : List Frame) (words : List (List ℕ))
     (is : stack_of words ≡ Ok (named_stack names stack)) (after : is_less_than_last (named_stack names stack) (map (named_stack names) old) ≡ false) (more : new ≡ old ++ stack ∷ []) where
   abbrev f : List Frame → List NamedFrame
   f = named_stack names
 
   abbrev b : Begun
-  b = begun names depth count old
+  b = begun names o old
 
   items : map f new ≡ map f old ++ f stack ∷ []
   items = ap (map f) more ∙ map_push f old stack
@@ -119,14 +122,14 @@ module _ (names : List (List ℕ)) (sigs : List NamedSig) (depth count : ℕ) (o
   size : length (map f new) ≡ length new
   size = length-map new f
 
-  said : stack_line sigs b words ≡ with_stack sigs b (map f new)
-  said = line_is sigs b words (f stack) is after ∙ ap (with_stack sigs b) (sym items)
+  said : stack_line version sigs b words ≡ with_stack version sigs b (map f new)
+  said = line_is version sigs b words (f stack) is after ∙ ap (with_stack version sigs b) (sym items)
 
-  pub stack_goes_on : length new < count → stack_line sigs (begun names depth count old) words ≡ Ok (record { stage = Within (begun names depth count new); sigs = sigs })
-  stack_goes_on h = said ∙ with_more sigs b (map f new) (λ e. omega (arith, h, size, e))
+  pub stack_goes_on : length new < o.count → stack_line version sigs (begun names o old) words ≡ Ok (record { version = version; stage = Within (begun names o new); sigs = sigs })
+  stack_goes_on h = said ∙ with_more version sigs b (map f new) (λ e. omega (arith, h, size, e))
 
-  pub stack_is_last : length new ≡ count → stack_line sigs (begun names depth count old) words ≡ with_signature sigs (record { depth = depth; stacks = map (named_stack names) new })
-  stack_is_last h = said ∙ with_last sigs b (map f new) (size ∙ h)
+  pub stack_is_last : length new ≡ o.count → stack_line version sigs (begun names o old) words ≡ with_signature version sigs (signature_with o (map (named_stack names) new))
+  stack_is_last h = said ∙ with_last version sigs b (map f new) (size ∙ h)
 
   pub stacks_stay_sorted : AreAscending names → All (IsNamedBy names) old → IsNamedBy names stack → AreInOrder (map (named_stack names) old) → AreSorted new
   stacks_stay_sorted up named one sorted =

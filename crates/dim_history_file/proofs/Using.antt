@@ -27,13 +27,16 @@ use Rattle.dim_stack.specs.Names.{HasNamesOf, table_of, number_of, name_of, HasN
 use Rattle.dim_stack.specs.declared.Frame.{Frame}
 use Rattle.dim_stack.proofs.TableLemmas.{has-table_of, has-append, has_contains, contains_has, has_own, table-same}
 use Rattle.dim_stack.proofs.NumberLemmas.{missing, found}
+use Rattle.dim_history_file.specs.declared.opening.Opening.{Opening}
+use Rattle.dim_history_file.specs.declared.version.Version.{Version}
+use Rattle.dim_history_file.specs.declared.version.Version.TheVariants.{One, Two}
 use Rattle.dim_history_file.specs.Judging.{frame_of}
 use Rattle.dim_history_file.specs.Value.{NamedFrame, NamedSig, named_frame, names_of_stack, names_used}
 use Rattle.dim_history_file.specs.Naming.{name_in, names_in_word, names_in_words, names_in_line, names_in_lines, names_in}
-use Rattle.dim_history_file.specs.Spelling.{Line, SignatureLine, StackLine, EndLine, spelled_frame, spelled, sig_lines, history_lines, text_of, history_text}
-use Rattle.dim_history_file.specs.Grammar.{IsFrame, IsStack, IsSignature, IsHistory}
+use Rattle.dim_history_file.specs.Spelling.{Line, HeadLine, SignatureLine, StackLine, EndLine, spelled_frame, state_word, opening_words, spelled, opening_for, sig_lines, history_lines, text_of, text_in}
+use Rattle.dim_history_file.specs.Grammar.{IsFrame, IsStack, IsSignature, IsHistory, IsTextOf}
 use Rattle.dim_history_file.proofs.Judged.{name_ok}
-use Rattle.dim_history_file.proofs.Spelled.{line_has_no, head_has_no, signature_has_no, end_has_no, stack_has_no, words_of_stack}
+use Rattle.dim_history_file.proofs.Spelled.{line_has_no, head_has_no, IsOpening, feed_apart, space_apart, is_opening, signature_has_no, end_has_no, stack_has_no, words_of_stack}
 
 -- ---- tables that have names
 abbrev has : List ℕ → List (List ℕ) → Bool
@@ -71,10 +74,24 @@ names_in_stack stack is = ap names_in_words (words_of_stack stack is) ∙ names_
 names_in_number : (n : ℕ) → n < 2 ^ 64 → names_in_word (decimal n) ≡ []
 names_in_number n small = ap (λ parts. name_in (two_sides parts)) (slice_split_none (λ b. b == 58) (decimal n) (HasNo-decimal 58 n (λ r. omega (arith, r.1)) small))
 
-names_in_signature : (depth count : ℕ) → depth ≤ 32 → count ≤ 32 → names_in_line (spelled (SignatureLine depth count)) ≡ []
-names_in_signature depth count h k =
-    ap names_in_words (words_of-line_of (codes "signature") (decimal depth ∷ decimal count ∷ []) (signature_has_no depth count h k 32 (omega arith) refl))
-    ∙ ap₂ (λ a b. names_in_word (codes "signature") ++ (a ++ (b ++ []))) (names_in_number depth (omega (arith, h))) (names_in_number count (omega (arith, k)))
+names_in_state : (on : Bool) → names_in_word (state_word on) ≡ []
+names_in_state true = refl
+names_in_state false = refl
+
+names_in_opening : (version : Version) (o : Opening) → IsOpening o → names_in_words (opening_words version o) ≡ []
+names_in_opening One o is = ap₂ (λ a b. a ++ (b ++ [])) (names_in_number o.depth (omega (arith, is.high))) (names_in_number o.count (omega (arith, is.few)))
+names_in_opening Two o is =
+    ap₂ (λ a b. a ++ (b ++ names_in_words (state_word o.on ∷ decimal o.yields ∷ []))) (names_in_number o.depth (omega (arith, is.high))) (names_in_number o.count (omega (arith, is.few)))
+    ∙ ap₂ (λ a b. a ++ (b ++ [])) (names_in_state o.on) (names_in_number o.yields (omega (arith, is.yields)))
+
+names_in_signature : (version : Version) (o : Opening) → IsOpening o → names_in_line (spelled (SignatureLine version o)) ≡ []
+names_in_signature version o is =
+    ap names_in_words (words_of-line_of (codes "signature") (opening_words version o) (signature_has_no version o is 32 space_apart))
+    ∙ ap (λ a. names_in_word (codes "signature") ++ a) (names_in_opening version o is)
+
+names_in_head : (version : Version) → names_in_line (spelled (HeadLine version)) ≡ []
+names_in_head One = refl
+names_in_head Two = refl
 
 names_in_end : (n : ℕ) → n ≤ 4096 → names_in_line (spelled (EndLine n)) ≡ []
 names_in_end n h =
@@ -101,37 +118,40 @@ stacks_one : (stacks : List (List NamedFrame)) → AllByRecursion IsStack stacks
 stacks_one [] h = tt
 stacks_one (s ∷ stacks) h = (stack_has_no s h.0, stacks_one stacks h.1)
 
-sigs_one : (sigs : List NamedSig) → AllByRecursion IsSignature sigs → AllByRecursion IsOneLine (flat_map sig_lines sigs)
-sigs_one [] h = tt
-sigs_one (s ∷ sigs) h =
-    let count = length s.stacks in
-    let words = codes "signature" ∷ decimal s.depth ∷ decimal count ∷ [] in
-    all-append IsOneLine (sig_lines s) (flat_map sig_lines sigs) (line_has_no words (signature_has_no s.depth count h.0.high h.0.few 10 (omega arith) refl), stacks_one s.stacks h.0.stacks) (sigs_one sigs h.1)
+sigs_one : (version : Version) (sigs : List NamedSig) → AllByRecursion IsSignature sigs → AllByRecursion IsOneLine (flat_map (sig_lines version) sigs)
+sigs_one version [] h = tt
+sigs_one version (s ∷ sigs) h =
+    let o = opening_for s in
+    let words = codes "signature" ∷ opening_words version o in
+    all-append IsOneLine (sig_lines version s) (flat_map (sig_lines version) sigs)
+    (line_has_no words (signature_has_no version o (is_opening s h.0) 10 feed_apart), stacks_one s.stacks h.0.stacks) (sigs_one version sigs h.1)
 
 stacks_names : (stacks : List (List NamedFrame)) → AllByRecursion IsStack stacks → flat_map line_names (map (λ stack. StackLine stack) stacks) ≡ flat_map names_of_stack stacks
 stacks_names [] h = refl
 stacks_names (s ∷ stacks) h = ap₂ (λ a b. a ++ b) (names_in_stack s h.0) (stacks_names stacks h.1)
 
-sigs_names : (sigs : List NamedSig) → AllByRecursion IsSignature sigs → flat_map line_names (flat_map sig_lines sigs) ≡ names_used sigs
-sigs_names [] h = refl
-sigs_names (s ∷ sigs) h =
-    flat_map-append line_names (sig_lines s) (flat_map sig_lines sigs)
-    ∙ ap₂ (λ a b. (a ++ b) ++ flat_map line_names (flat_map sig_lines sigs)) (names_in_signature s.depth (length s.stacks) h.0.high h.0.few) (stacks_names s.stacks h.0.stacks)
-    ∙ ap (λ ns. flat_map names_of_stack s.stacks ++ ns) (sigs_names sigs h.1)
+sigs_names : (version : Version) (sigs : List NamedSig) → AllByRecursion IsSignature sigs → flat_map line_names (flat_map (sig_lines version) sigs) ≡ names_used sigs
+sigs_names version [] h = refl
+sigs_names version (s ∷ sigs) h =
+    let rest = flat_map (sig_lines version) sigs in
+    flat_map-append line_names (sig_lines version s) rest
+    ∙ ap₂ (λ a b. (a ++ b) ++ flat_map line_names rest) (names_in_signature version (opening_for s) (is_opening s h.0)) (stacks_names s.stacks h.0.stacks)
+    ∙ ap (λ ns. flat_map names_of_stack s.stacks ++ ns) (sigs_names version sigs h.1)
 
 -- the names in the text of a history are those that it uses
-pub names_in_history : (sigs : List NamedSig) → IsHistory sigs → names_in (history_text sigs) ≡ names_used sigs
-names_in_history sigs h =
+pub names_in_history : (version : Version) (sigs : List NamedSig) → IsHistory sigs → names_in (text_in version sigs) ≡ names_used sigs
+names_in_history version sigs h =
     let last = EndLine (length sigs) in
-    let body = flat_map sig_lines sigs in
+    let body = flat_map (sig_lines version) sigs in
     let ends : IsOneLine last = line_has_no (codes "end" ∷ decimal (length sigs) ∷ []) (end_has_no (length sigs) h.few 10 (omega arith) refl) in
-    names_in_text (history_lines sigs) (head_has_no, all-append IsOneLine body (last ∷ []) (sigs_one sigs h.signatures) (ends, tt))
-    ∙ flat_map-append line_names body (last ∷ [])
-    ∙ ap₂ (λ a b. a ++ (b ++ [])) (sigs_names sigs h.signatures) (names_in_end (length sigs) h.few)
+    let front : IsOneLine (HeadLine version) = head_has_no version in
+    names_in_text (history_lines version sigs) (front, all-append IsOneLine body (last ∷ []) (sigs_one version sigs h.signatures) (ends, tt))
+    ∙ ap₂ (λ a b. a ++ b) (names_in_head version) (flat_map-append line_names body (last ∷ []))
+    ∙ ap₂ (λ a b. a ++ (b ++ [])) (sigs_names version sigs h.signatures) (names_in_end (length sigs) h.few)
     ∙ append-nil (names_used sigs)
 
-pub used_table : (bytes : List ℕ) (sigs : List NamedSig) → IsHistory sigs → bytes ≡ history_text sigs → table_of (names_in bytes) ≡ table_of (names_used sigs)
-used_table bytes sigs h e = ap table_of (ap names_in e ∙ names_in_history sigs h)
+pub used_table : (bytes : List ℕ) (sigs : List NamedSig) → IsHistory sigs → IsTextOf bytes sigs → table_of (names_in bytes) ≡ table_of (names_used sigs)
+used_table bytes sigs h is = ap table_of (ap names_in is.text ∙ names_in_history is.version sigs h)
 
 -- ---- gathering names
 abbrev pub Gathers : List (List ℕ) → List (List ℕ) → List (List ℕ) → List (List ℕ) → Type 0

@@ -1,5 +1,5 @@
 -- What a history means: its signatures, with functions read as names.
-use Rattle.std.specs.Prelude.{ℕ, Bool, nat_eq, All, List, map}
+use Rattle.std.specs.Prelude.{ℕ, Bool, true, nat_eq, All, List, map}
 use Rattle.std.specs.Option.{unwrap_or}
 use Rattle.std.specs.List.{flat_map, list_any}
 use Rattle.std.specs.Ordering.{nat_cmp, on, then_cmp, eq_of_both}
@@ -17,6 +17,8 @@ pub record NamedFrame : Type 0 where
 pub record NamedSig : Type 0 where
   pub depth : ℕ
   pub stacks : List (List NamedFrame)
+  pub on : Bool
+  pub yields : ℕ
 
 -- numbers read as the names of a table
 abbrev pub named_frame : List (List ℕ) → Frame → NamedFrame
@@ -26,7 +28,7 @@ abbrev pub named_stack : List (List ℕ) → List Frame → List NamedFrame
 named_stack names stack = map (named_frame names) stack
 
 abbrev pub named_sig : List (List ℕ) → Sig → NamedSig
-named_sig names s = record { depth = s.depth; stacks = map (named_stack names) s.stacks }
+named_sig names s = record { depth = s.depth; stacks = map (named_stack names) s.stacks; on = s.on; yields = s.yields }
 
 abbrev pub named : List (List ℕ) → List Sig → List NamedSig
 named names sigs = map (named_sig names) sigs
@@ -39,10 +41,17 @@ abbrev pub numbered_stack : List (List ℕ) → List NamedFrame → List Frame
 numbered_stack names stack = map (numbered_frame names) stack
 
 abbrev pub numbered_sig : List (List ℕ) → NamedSig → Sig
-numbered_sig names s = record { depth = s.depth; stacks = map (numbered_stack names) s.stacks }
+numbered_sig names s = record { depth = s.depth; stacks = map (numbered_stack names) s.stacks; on = s.on; yields = s.yields }
 
 abbrev pub numbered : List (List ℕ) → List NamedSig → List Sig
 numbered names sigs = map (numbered_sig names) sigs
+
+-- the signatures with all states on and no yields
+abbrev pub renewed : NamedSig → NamedSig
+renewed s = record s { on = true; yields = 0 }
+
+abbrev pub migrated : List NamedSig → List NamedSig
+migrated sigs = map renewed sigs
 
 -- each function of each stack stands in the table
 abbrev pub AreNamed : List (List ℕ) → List Sig → Type 0

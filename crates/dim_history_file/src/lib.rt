@@ -6,10 +6,12 @@ mod frames;
 mod history;
 mod laws;
 mod names;
+mod opening;
 mod reader;
 mod reading;
 mod renaming;
 mod signing;
+mod version;
 mod writing;
 
 pub use fault::{FileFault, FileKind, ReadFault};

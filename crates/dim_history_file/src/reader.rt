@@ -8,16 +8,19 @@ ghost use Rattle.dim_signature.specs.Sig.{IsSig};
 ghost use Rattle.dim_signature.specs.Sorted.{AreSorted};
 ghost use Rattle.dim_history_file.specs.Faults.{fault, fault_of};
 ghost use Rattle.dim_history_file.specs.Value.{named_stack};
-ghost use Rattle.dim_history_file.specs.Judging.{head_line, signature_line, end_line, due_line, stack_line, is_less_than_last, step, at_end, start, with_signature};
+ghost use Rattle.dim_history_file.specs.Judging.{head_line, signature_line, end_line, due_line, stack_line, is_less_than_last, signature_with, step, at_end, start, with_signature};
 ghost use Rattle.dim_history_file.specs.Naming.{names_in_line};
+ghost use Rattle.dim_history_file.specs.Signing.{opened};
 
 use crate::fault::in_line;
 use crate::frames::stack;
+use crate::opening::{Form, Opening};
 use crate::signing::{enter, signature};
+use crate::version::Version;
 use crate::{FileKind, ReadFault};
 use dim_signature::Catalogue;
 use dim_stack::{Names, Stack, compare};
-use dim_text::{Parts, Stop, number, number_from, one_word, two_words, unless};
+use dim_text::{Parts, Stop, number, one_word, unless};
 use std::alloc::Global;
 
 /// How many signatures a history has at most.
@@ -30,8 +33,8 @@ pub enum Stage {
     Head,
     /// A signature or the end.
     Due,
-    /// A stack of a signature with this depth and so many stacks.
-    Stacks { depth: u8, count: u32 },
+    /// A stack of a signature with this line.
+    Stacks(Opening),
     /// Nothing more.
     Closed,
 }
@@ -39,6 +42,8 @@ pub enum Stage {
 /// What has been read so far.
 #[derive(Drop)]
 pub struct Reader {
+    // The version of the text, from its first line on.
+    pub version: Version,
     pub stage: Stage,
     // The names of all functions of the text.
     pub names: Names,
@@ -59,6 +64,7 @@ impl Reader {
     {
         let _few = names.len();
         Reader {
+            version: Version::Two,
             stage: Stage::Head,
             names,
             catalogue: Catalogue::new(alloc),
@@ -66,41 +72,37 @@ impl Reader {
         }
     }
 
-    // `dim history 1`
+    // `dim history 1` or `dim history 2`
     #[tactic(auto, unfolding(crate::specs::Judging::head_line))]
     fn head_line(&mut self, line: &[u8]) -> Result<(), FileKind>
         ensures value { Leaves Some (state_of self.new) result (head_line (sigs_of self.old) line.now) }
         ensures names { self.new.names ≡ self.old.names }
         ensures reading { IsReading self.old → IsReading self.new }
     {
-        unless(line != b"dim history 1".as_slice(), FileKind::Head)?;
+        self.version = Version::of(line).ok_or(FileKind::Head)?;
         self.stage = Stage::Due;
         Ok(())
     }
 
-    // `signature DEPTH COUNT`
+    // `signature DEPTH COUNT`, and from version 2 on with STATE and YIELDS
     #[tactic(auto, unfolding(crate::specs::Judging::signature_line))]
     fn signature_line(&mut self, words: &mut Parts) -> Result<(), FileKind>
-        ensures value { Leaves Some (state_of self.new) result (signature_line (sigs_of self.old) words.old) }
+        ensures value { Leaves Some (state_of self.new) result (signature_line self.old.version (sigs_of self.old) words.old) }
         ensures names { self.new.names ≡ self.old.names }
         ensures reading { IsReading self.old → IsReading self.new }
     {
-        let (first, second) = two_words(words, FileKind::Line)?;
+        let form = Form::of(self.version, words)?;
         unless(self.catalogue.len() == MOST, FileKind::Limit)?;
-        let depth = number_from(first, 1, 32).ok_or(FileKind::Number)?;
-        let count = number_from(second, 2, 32).ok_or(FileKind::Number)?;
+        let opening = form.opening()?;
         self.stacks.clear();
-        self.stage = Stage::Stacks {
-            depth: depth as u8,
-            count,
-        };
+        self.stage = Stage::Stacks(opening);
         Ok(())
     }
 
     // `end N`
     #[tactic(auto, unfolding(crate::specs::Judging::end_line))]
     fn end_line(&mut self, words: &mut Parts) -> Result<(), FileKind>
-        ensures value { Leaves Some (state_of self.new) result (end_line (sigs_of self.old) words.old) }
+        ensures value { Leaves Some (state_of self.new) result (end_line self.old.version (sigs_of self.old) words.old) }
         ensures names { self.new.names ≡ self.old.names }
         ensures reading { IsReading self.old → IsReading self.new }
     {
@@ -114,7 +116,7 @@ impl Reader {
     // A line where a signature or the end is due.
     #[tactic(auto, unfolding(crate::specs::Judging::due_line))]
     fn due_line(&mut self, words: &mut Parts) -> Result<(), FileKind>
-        ensures value { Leaves Some (state_of self.new) result (due_line (sigs_of self.old) words.old) }
+        ensures value { Leaves Some (state_of self.new) result (due_line self.old.version (sigs_of self.old) words.old) }
         ensures names { self.new.names ≡ self.old.names }
         ensures reading { IsReading self.old → IsReading self.new }
     {
@@ -137,48 +139,46 @@ impl Reader {
         }
     }
 
-    // Makes the signature of the stacks that were read.
-    fn end_signature(&mut self, alloc: Global, depth: u8) -> Result<(), Stop<FileKind>>
+    // Makes the signature of this line and the stacks that were read.
+    fn end_signature(&mut self, alloc: Global, opening: Opening) -> Result<(), Stop<FileKind>>
         requires reading { IsReading self.old }
         requires sorted { AreSorted self.old.stacks.items }
-        requires in_range { IsSig record { depth = depth; stacks = self.old.stacks.items } }
+        requires in_range { IsSig (opened opening self.old.stacks.items) }
         requires room { length self.old.catalogue.sigs < 4096 }
-        ensures value { Leaves kind_of (state_of self.new) result (with_signature (sigs_of self.old) record {
-          depth = depth;
-          stacks = map (named_stack self.old.names) self.old.stacks.items;
-        }) }
+        ensures value { Leaves kind_of (state_of self.new) result (with_signature self.old.version (sigs_of self.old)
+            (signature_with opening (map (named_stack self.old.names) self.old.stacks.items))) }
         ensures names { self.new.names ≡ self.old.names }
         ensures reading { OnOk result (IsReading self.new) }
     {
-        let sig = signature(alloc, depth, &self.stacks)?;
+        let sig = signature(alloc, opening, &self.stacks)?;
         self.stage = Stage::Due;
         enter(&mut self.catalogue, sig)
     }
 
-    // A stack of a signature with this depth and so many stacks.
+    // A stack of a signature with this line.
     #[tactic(auto, unfolding(crate::specs::Judging::stack_line))]
     fn stack_line(
         &mut self,
         alloc: Global,
-        depth: u8,
-        count: u32,
+        opening: Opening,
         line: &[u8],
     ) -> Result<(), Stop<FileKind>>
-        requires stage { self.old.stage ≡ Stage.Stacks depth count }
+        requires stage { self.old.stage ≡ Stage.Stacks opening }
         requires reading { IsReading self.old }
-        requires begun { IsBegun (sigs_of self.old) (begun_of self.old depth count) }
+        requires begun { IsBegun self.old.version (sigs_of self.old) (begun_of self.old opening) }
         requires covers { HasNames self.old.names (names_in_line line.now) }
-        ensures value { Leaves kind_of (state_of self.new) result (stack_line (sigs_of self.old) (begun_of self.old depth count) (words_of line.now)) }
+        ensures value { Leaves kind_of (state_of self.new) result (stack_line self.old.version (sigs_of self.old)
+            (begun_of self.old opening) (words_of line.now)) }
         ensures names { self.new.names ≡ self.old.names }
         ensures reading { OnOk result (IsReading self.new) }
     {
         let stack = stack(alloc, &self.names, line)?;
         unless(self.is_less_than_last(&stack), FileKind::Unsorted)?;
         self.stacks.push(stack)?;
-        if self.stacks.len() < count as usize {
+        if self.stacks.len() < opening.count as usize {
             return Ok(());
         }
-        self.end_signature(alloc, depth)
+        self.end_signature(alloc, opening)
     }
 
     // Takes a line.
@@ -194,7 +194,7 @@ impl Reader {
         match self.stage {
             Stage::Head => self.head_line(line)?,
             Stage::Due => self.due_line(&mut Parts::words(line))?,
-            Stage::Stacks { depth, count } => self.stack_line(alloc, depth, count, line)?,
+            Stage::Stacks(opening) => self.stack_line(alloc, opening, line)?,
             Stage::Closed => return Err(Stop::Bad(FileKind::Rest)),
         }
         Ok(())
@@ -221,7 +221,7 @@ impl Reader {
             Stage::Closed if last.is_empty() => Ok(()),
             Stage::Head => Err(Stop::Bad(FileKind::Head)),
             Stage::Closed => Err(Stop::Bad(FileKind::Rest)),
-            Stage::Due | Stage::Stacks { .. } => Err(Stop::Bad(FileKind::Line)),
+            Stage::Due | Stage::Stacks(_) => Err(Stop::Bad(FileKind::Line)),
         }
     }
 }

@@ -5,8 +5,7 @@ ghost use Rattle.dim_stack.specs.Names.{table_of};
 ghost use Rattle.dim_history_file.specs.Faults.{fault_of};
 ghost use Rattle.dim_history_file.specs.Value.{names_used};
 ghost use Rattle.dim_history_file.specs.Judging.{history_of};
-ghost use Rattle.dim_history_file.specs.Spelling.{history_text};
-ghost use Rattle.dim_history_file.specs.Grammar.{AreNear, IsHistory};
+ghost use Rattle.dim_history_file.specs.Grammar.{AreNear, IsHistory, IsTextOf};
 ghost use Rattle.dim_history_file.specs.Naming.{names_in};
 ghost use Rattle.dim_history_file.specs.Reader.{IsReading, sigs_of};
 ghost use Rattle.dim_history_file.specs.Seen.{value_of};
@@ -38,12 +37,12 @@ fn read_lines(alloc: Global, bytes: &[u8]) -> Result<Reader, ReadFault>
     Ok(reader)
 }
 
-/// The history that a text spells, or the first fault of the text.
+/// The history that a text of version 1 or 2 spells, or the first fault of the text. Signatures of version 1 are on and have 0 yields.
 ///
 /// Its names are those that its stacks use. Which kind a fault has stands in docs/formats.md.
 pub fn read(alloc: Global, bytes: &[u8]) -> Result<History, ReadFault>
     ensures value { Gives fault_of value_of result (history_of bytes.now) }
-    ensures text { IfOk result (λ h. bytes.now ≡ history_text (value_of h)) }
+    ensures text { IfOk result (λ h. IsTextOf bytes.now (value_of h)) }
     ensures names { IfOk result (λ h. h.names ≡ table_of (names_used (value_of h))) }
     ensures history { IfOk result (λ h. IsHistory (value_of h)) }
     ensures near { IfOk result (λ h. AreNear h.catalogue.sigs) }

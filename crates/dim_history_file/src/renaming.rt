@@ -7,6 +7,7 @@ ghost use Rattle.dim_history_file.specs.Grammar.{AreNear};
 ghost use Rattle.dim_history_file.specs.Seen.{value_of};
 
 use crate::History;
+use crate::opening::Opening;
 use crate::signing::signature;
 use dim_base::OutOfMemory;
 use dim_signature::{Add, Catalogue, Signature};
@@ -73,7 +74,7 @@ fn renamed_stacks(
     Ok(renamed)
 }
 
-// A signature with this depth, and these stacks in order.
+// The same signature.
 fn renamed_sig(
     alloc: Global,
     from: &Names,
@@ -87,7 +88,7 @@ fn renamed_sig(
 {
     let _tables = (from.len(), to.len());
     let stacks = renamed_stacks(alloc, from, to, sig.as_slice())?;
-    signature(alloc, sig.depth(), &stacks)
+    signature(alloc, Opening::of(sig), &stacks)
 }
 
 // Appends a signature whose stacks no other has, to fewer than 4,096.
@@ -117,7 +118,7 @@ fn renamed_catalogue(alloc: Global, h: &History, names: &Names) -> Result<Catalo
     Ok(catalogue)
 }
 
-/// The same history with this table of names, in which each of its names has to stand.
+/// The same history with this table of names, in which each of its names has to stand: depths, states and yields stay.
 pub fn rename(alloc: Global, h: History, names: &Names) -> Result<History, OutOfMemory>
     requires { HasNames names.now h.names }
     ensures names { IfOk result (λ r. r.names ≡ names.now) }

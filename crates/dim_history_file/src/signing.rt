@@ -4,23 +4,28 @@ ghost use Rattle.dim_text.specs.Reading.{Leaves};
 ghost use Rattle.dim_signature.specs.Sig.{IsSig};
 ghost use Rattle.dim_signature.specs.Sorted.{AreSorted};
 ghost use Rattle.dim_text.specs.Stops.{kind_of};
-ghost use Rattle.dim_history_file.specs.Signing.{entered};
+ghost use Rattle.dim_history_file.specs.Signing.{entered, opened};
 
 use crate::FileKind;
+use crate::opening::Opening;
 use dim_base::OutOfMemory;
 use dim_signature::{Add, Catalogue, SigFault, Signature};
 use dim_stack::Stack;
 use dim_text::Stop;
 use std::alloc::Global;
 
-/// The signature of 2 to 32 stacks in order, with a depth from 1 to 32.
-pub fn signature(alloc: Global, depth: u8, stacks: &[Stack]) -> Result<Signature, OutOfMemory>
-    requires in_range { IsSig record { depth = depth; stacks = stacks.now } }
+/// The signature that a line with a depth from 1 to 32 opens, with 2 to 32 stacks in order.
+pub fn signature(
+    alloc: Global,
+    opening: Opening,
+    stacks: &[Stack],
+) -> Result<Signature, OutOfMemory>
+    requires in_range { IsSig (opened opening stacks.now) }
     requires sorted { AreSorted stacks.now }
-    ensures { IfOk result (λ s. s ≡ record { depth = depth; stacks = stacks.now }) }
+    ensures { IfOk result (λ s. s ≡ opened opening stacks.now) }
 {
-    match Signature::new(alloc, depth, stacks) {
-        Ok(sig) => Ok(sig),
+    match Signature::new(alloc, opening.depth, stacks) {
+        Ok(sig) => Ok(sig.noted(opening.on, opening.yields)),
         Err(SigFault::OutOfMemory) => Err(OutOfMemory),
         Err(_) => unreachable!(),
     }

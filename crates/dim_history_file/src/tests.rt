@@ -2,17 +2,40 @@ ghost use Rattle.std.specs.Prelude.{IfOk};
 ghost use Rattle.dim_stack.specs.Names.{HasNames};
 
 use super::*;
+use dim_base::Bytes;
 use dim_stack::Names;
 use std::alloc::Global;
 use std::test::Fail;
 
-// A deadlock of two threads.
-const PAIR: &str = "dim history 1
+// A deadlock of two threads that was avoided once.
+const PAIR: &str = "dim history 2
+signature 4 2 on 1
+left:0
+right:0
+end 1
+";
+
+// One that nobody avoids.
+const PAIR_OFF: &str = "dim history 2
+signature 4 2 off 0
+left:0
+right:0
+end 1
+";
+
+// One of an older text.
+const OLD_PAIR: &str = "dim history 1
 signature 4 2
 left:0
 right:0
 end 1
 ";
+
+// What is written of a text that was read.
+fn written(alloc: Global, text: &str) -> Result<Bytes, ReadFault> {
+    let h = read(alloc, text.as_bytes())?;
+    Ok(write(alloc, &h)?)
+}
 
 // The line and the number of the kind of a text's fault.
 fn fault(alloc: Global, text: &str) -> Option<(u32, u32)> {
@@ -28,15 +51,57 @@ fn a_history_is_read_and_written_again(rt: HostRuntime) -> Result<(), Fail> {
     assert_eq!(rt; (h.names.len(), h.catalogue.len()), (2, 1));
     assert_eq!(rt; h.names.find(b"right"), Some(1));
     let text = write(rt.alloc(), &h)?;
-    assert_eq!(rt; text.as_slice(), PAIR.as_bytes());
+    assert_eq!(rt; (text.as_slice(), PAIR.len()), (PAIR.as_bytes(), 54));
     Ok(())
+}
+
+#[test]
+fn states_and_yields_stay(rt: HostRuntime) -> Result<(), Fail> {
+    let h = read(rt.alloc(), PAIR_OFF.as_bytes())?;
+    assert_eq!(rt; h.catalogue.len(), 1);
+    assert_eq!(rt; (h.catalogue.get(0).on(), h.catalogue.get(0).yields()), (false, 0));
+    let text = written(rt.alloc(), PAIR_OFF)?;
+    assert_eq!(rt; (text.as_slice(), PAIR_OFF.len()), (PAIR_OFF.as_bytes(), 55));
+    let most = "dim history 2\nsignature 32 2 off 4294967295\na:0\na:0\nend 1\n";
+    let text = written(rt.alloc(), most)?;
+    assert_eq!(rt; text.as_slice(), most.as_bytes());
+    Ok(())
+}
+
+#[test]
+fn what_an_older_text_has_is_on_with_no_yields(rt: HostRuntime) -> Result<(), Fail> {
+    let text = written(rt.alloc(), OLD_PAIR)?;
+    let want = "dim history 2\nsignature 4 2 on 0\nleft:0\nright:0\nend 1\n";
+    assert_eq!(rt; text.as_slice(), want.as_bytes());
+    Ok(())
+}
+
+#[test]
+fn each_version_has_a_signature_line_of_its_own(rt: HostRuntime) {
+    let texts: [(&str, u32); 11] = [
+        ("dim history 3\nend 0\n", 1),
+        ("dim history 1\nsignature 4 2 on 0\n", 2),
+        ("dim history 2\nsignature 4 2\n", 2),
+        ("dim history 2\nsignature 4 2 on\n", 2),
+        ("dim history 2\nsignature 4 2 on 0 0\n", 2),
+        ("dim history 2\nsignature 4 2 on  0\n", 2),
+        ("dim history 2\nsignature 0 2 no 0\n", 2),
+        ("dim history 2\nsignature 4 2 ON x\n", 2),
+        ("dim history 2\nsignature 4 2 on 00\n", 4),
+        ("dim history 2\nsignature 4 2 off 4294967296\n", 4),
+        ("dim history 2\nsignature 4 1 off 0\n", 4),
+    ];
+    for (text, kind) in texts {
+        let line = if kind == 1 { 1 } else { 2 };
+        assert_eq!(rt; fault(rt.alloc(), text), Some((line, kind)));
+    }
 }
 
 #[test]
 fn the_empty_history_has_twenty_bytes(rt: HostRuntime) -> Result<(), Fail> {
     let h = History::empty(rt.alloc())?;
     let text = write(rt.alloc(), &h)?;
-    assert_eq!(rt; text.as_slice(), b"dim history 1\nend 0\n".as_slice());
+    assert_eq!(rt; text.as_slice(), b"dim history 2\nend 0\n".as_slice());
     Ok(())
 }
 

@@ -5,7 +5,8 @@ ghost use Rattle.dim_text.specs.Cuts.{ended};
 ghost use Rattle.dim_stack.specs.Names.{IsNamedBy};
 ghost use Rattle.dim_history_file.specs.Value.{named_stack, named_sig};
 ghost use Rattle.dim_history_file.specs.Judging.{history_of};
-ghost use Rattle.dim_history_file.specs.Spelling.{StackLine, spelled, sig_lines, text_of, history_text, gap};
+ghost use Rattle.dim_history_file.specs.Spelling.{StackLine, spelled, sig_lines, state_word, text_of, history_text, gap};
+ghost use Rattle.dim_history_file.specs.declared.version.Version.TheVariants.{Two};
 ghost use Rattle.dim_history_file.specs.Grammar.{AreNear, AreSized, IsHistory, IsSized};
 ghost use Rattle.dim_history_file.specs.Seen.{value_of};
 
@@ -39,15 +40,24 @@ pub fn put_stack(text: &mut String, names: &Names, stack: &Stack) -> Result<(), 
     text.push('\n')
 }
 
+// What a state is called.
+fn state_word(on: bool) -> &'static str
+    ensures { result.now ≡ state_word on }
+{
+    if on { "on" } else { "off" }
+}
+
 // Appends the lines of a signature.
 fn put_signature(text: &mut String, names: &Names, sig: &Signature) -> Result<(), AllocError>
     requires { All (IsNamedBy names.now) sig.now.stacks }
     ensures sized { OnOk result (All IsSized sig.now.stacks) }
-    ensures lines { OnOk result (string_bytes text.new ≡ string_bytes text.old ++ text_of (sig_lines (named_sig names.now sig.now))) }
+    ensures lines { OnOk result (string_bytes text.new ≡ string_bytes text.old ++ text_of (sig_lines Two (named_sig names.now sig.now))) }
 {
     let depth = sig.depth();
     let count = sig.len();
-    writeln!(text, "signature {depth} {count}")?;
+    let state = state_word(sig.on());
+    let yields = sig.yields();
+    writeln!(text, "signature {depth} {count} {state} {yields}")?;
     for stack in sig.as_slice() {
         put_stack(text, names, stack)?;
     }
@@ -59,7 +69,7 @@ fn text_of_history(alloc: Global, h: &History) -> Result<String, AllocError>
     ensures text { IfOk result (λ text. string_bytes text ≡ history_text (value_of h.now)) }
     ensures sized { IfOk result (λ _. AreSized h.now.catalogue.sigs) }
 {
-    let mut text = String::from_str(alloc, "dim history 1\n")?;
+    let mut text = String::from_str(alloc, "dim history 2\n")?;
     let count = h.catalogue.len();
     for i in 0..count {
         put_signature(&mut text, &h.names, h.catalogue.get(i))?;
@@ -68,7 +78,7 @@ fn text_of_history(alloc: Global, h: &History) -> Result<String, AllocError>
     Ok(text)
 }
 
-/// The text of a history. Where no offset is above 65,535, it is read again as the same history.
+/// The text of a history, in version 2. Where no offset is above 65,535, it is read again as the same history.
 pub fn write(alloc: Global, h: &History) -> Result<Bytes, OutOfMemory>
     ensures text { IfOk result (λ text. text ≡ history_text (value_of h.now)) }
     ensures history { IfOk result (λ _. AreNear h.now.catalogue.sigs → IsHistory (value_of h.now)) }

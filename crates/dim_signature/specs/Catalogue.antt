@@ -1,9 +1,9 @@
 -- What contracts see of a catalogue.
-use Rattle.std.specs.Prelude.{◌≡◌, ◌≢◌, ℕ, ◌≤◌, Bool, All, AllPairs, List, length, position, slice_get, Option, Some, None}
+use Rattle.std.specs.Prelude.{◌≡◌, ◌≢◌, ℕ, ◌≤◌, Bool, All, AllPairs, List, [], length, position, slice_get, slice_index_or, slice_set, Option, Some, None}
 use Rattle.std.specs.Cmp.Lexicographic.{pointwise}
 use Rattle.dim_stack.specs.declared.Frame.{Frame}
 use Rattle.dim_stack.specs.Order.{frame_eq}
-use Rattle.dim_signature.specs.Sig.{Sig, IsSig}
+use Rattle.dim_signature.specs.Sig.{Sig, IsSig, fresh, switched, counted}
 use Rattle.dim_signature.specs.Sorted.{AreSorted}
 
 -- the signatures by their numbers, and room for signatures to be learnt
@@ -26,6 +26,10 @@ has_stacks stacks s = pointwise (pointwise frame_eq) s.stacks stacks
 abbrev pub number_of : List Sig → List (List Frame) → Option ℕ
 number_of sigs stacks = position (has_stacks stacks) sigs
 
+-- the signatures, of which the one with this number is another: what `change` makes of it
+abbrev pub changed_at : ℕ → (Sig → Sig) → List Sig → List Sig
+changed_at i change sigs = slice_set sigs i (change (slice_index_or sigs i (fresh 0 [])))
+
 -- the signature with that number has these stacks
 abbrev pub FoundLaw : Type 0
 FoundLaw = (sigs : List Sig) (stacks : List (List Frame)) (n : ℕ) → number_of sigs stacks ≡ Some n
@@ -38,3 +42,10 @@ MissingLaw = (sigs : List Sig) (stacks : List (List Frame)) → number_of sigs s
 -- the stacks of each signature of a catalogue have its own number
 abbrev pub OwnLaw : Type 0
 OwnLaw = (sigs : List Sig) → IsCatalogue sigs → (n : ℕ) (s : Sig) → slice_get sigs n ≡ Some s → number_of sigs s.stacks ≡ Some n
+
+-- no state and no number of yields says which stacks have which number
+abbrev pub SwitchedLaw : Type 0
+SwitchedLaw = (sigs : List Sig) (i : ℕ) (on : Bool) (stacks : List (List Frame)) → number_of (changed_at i (switched on) sigs) stacks ≡ number_of sigs stacks
+
+abbrev pub CountedLaw : Type 0
+CountedLaw = (sigs : List Sig) (i more : ℕ) (stacks : List (List Frame)) → number_of (changed_at i (counted more) sigs) stacks ≡ number_of sigs stacks

@@ -5,7 +5,7 @@ use Rattle.std.specs.declared.cmp.Ordering.{Ordering}
 use Rattle.std.specs.declared.cmp.Ordering.TheVariants.{Less, Greater}
 use Rattle.std.specs.Cmp.Lexicographic.{slice_cmp}
 use Rattle.dim_stack.specs.declared.Frame.{Frame}
-use Rattle.dim_signature.specs.Sig.{Sig}
+use Rattle.dim_signature.specs.Sig.{Sig, fresh}
 use Rattle.dim_signature.specs.Sorted.{stack_cmp}
 use Rattle.dim_signature.specs.Catalogue.{IsCatalogue}
 
@@ -15,7 +15,7 @@ stacks_cmp = slice_cmp stack_cmp
 
 -- what is read where there is no signature
 abbrev pub no_sig : Sig
-no_sig = record { depth = 0; stacks = [] }
+no_sig = fresh 0 []
 
 -- the stacks of the signature with a number
 abbrev pub stacks_of : List Sig → ℕ → List (List Frame)

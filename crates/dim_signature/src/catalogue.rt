@@ -1,8 +1,8 @@
 //! Signatures by their numbers.
 ghost use Rattle.std.specs.Prelude.{◌≡◌, ◌⊎◌, ◌<◌, ◌≤◌, ◌++◌, ◌∷◌, ◌+◌, ◌-◌, [], All, length, max, slice_get, vec_capacity, IfOk, IfErr, IfSome, OnOk, OnErr, Some, None};
-ghost use Rattle.dim_signature.specs.Sig.{IsSig};
+ghost use Rattle.dim_signature.specs.Sig.{IsSig, counted, fresh, switched};
 ghost use Rattle.dim_signature.specs.Sorted.{AreSorted};
-ghost use Rattle.dim_signature.specs.Catalogue.{FoundLaw, IsCatalogue, MissingLaw, OwnLaw, number_of};
+ghost use Rattle.dim_signature.specs.Catalogue.{CountedLaw, FoundLaw, IsCatalogue, MissingLaw, OwnLaw, SwitchedLaw, changed_at, number_of};
 ghost use Rattle.dim_signature.specs.Order.{IsRoom};
 ghost use Rattle.dim_signature.specs.Refusal.{refusal_of};
 
@@ -132,16 +132,16 @@ impl Catalogue {
         add_rooms(alloc, &mut self.rooms, places as usize)
     }
 
-    /// Appends the signature of these stacks, in the room that is there, and answers its number. It takes no memory.
+    /// Appends the signature of these stacks, on and with 0 yields, in the room that is there, and answers its number. It takes no memory.
     pub fn learn(&mut self, depth: u8, sorted: &[Stack]) -> u32
         requires room { 1 ≤ self.old.spare }
         requires few { length self.old.sigs < 4096 }
-        requires signature { IsSig record { depth = depth; stacks = sorted.now } }
+        requires signature { IsSig (fresh depth sorted.now) }
         requires ordered { AreSorted sorted.now }
         requires unknown { number_of self.old.sigs sorted.now ≡ None }
         ensures number { result ≡ length self.old.sigs }
         ensures learnt { self.new ≡ record {
-          sigs = self.old.sigs ++ record { depth = depth; stacks = sorted.now } ∷ [];
+          sigs = self.old.sigs ++ fresh depth sorted.now ∷ [];
           spare = self.old.spare - 1;
         } }
     {
@@ -149,6 +149,23 @@ impl Catalogue {
         let room = self.rooms.pop().unwrap();
         let sig = Signature::in_room(room, depth, sorted);
         append(&mut self.list, &mut self.order, place, sig)
+    }
+
+    /// Puts the signature with a number into this state, and changes nothing else. It needs `i` below the length, and takes no memory.
+    pub fn switch(&mut self, i: u32, on: bool)
+        requires { i < length self.old.sigs }
+        ensures { self.new ≡ record self.old { sigs = changed_at i (switched on) self.old.sigs } }
+    {
+        self.list[i as usize].switch(on);
+    }
+
+    /// Counts so many yields more for the signature with a number, up to 4,294,967,295, and changes nothing else.
+    /// It needs `i` below the length, and takes no memory.
+    pub fn count(&mut self, i: u32, more: u32)
+        requires { i < length self.old.sigs }
+        ensures { self.new ≡ record self.old { sigs = changed_at i (counted more) self.old.sigs } }
+    {
+        self.list[i as usize].count(more);
     }
 
     /// A catalogue with the same signatures in the same order, equal in all that they hold, and no room.
@@ -186,4 +203,10 @@ pub fn number_law()
     ensures found { FoundLaw }
     ensures missing { MissingLaw }
     ensures own { OwnLaw }
+{}
+
+/// What a change of state or of yields leaves: the numbers of all stacks.
+pub fn change_law()
+    ensures switched { SwitchedLaw }
+    ensures counted { CountedLaw }
 {}

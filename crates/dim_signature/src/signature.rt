@@ -1,6 +1,6 @@
 //! One signature.
 ghost use Rattle.std.specs.Prelude.{◌≡◌, ◌⊎◌, ◌<◌, ◌≤◌, ◌^◌, length, slice_get, IfOk, IfErr, IfSome, Some};
-ghost use Rattle.dim_signature.specs.Sig.{IsSig};
+ghost use Rattle.dim_signature.specs.Sig.{IsSig, counted, fresh, switched};
 ghost use Rattle.dim_signature.specs.Sorted.{AreSorted, sorted};
 ghost use Rattle.dim_signature.specs.Order.{IsRoom};
 ghost use Rattle.dim_signature.specs.Refusal.{fault_of};
@@ -34,11 +34,13 @@ impl From<AllocError> for SigFault {
     }
 }
 
-/// A depth from 1 to 32, and 2 to 32 stacks in order.
+/// A depth from 1 to 32, and 2 to 32 stacks in order; whether it is switched on, and how many yields were counted, up to 4,294,967,295.
 #[derive(Debug, Drop)]
 pub struct Signature {
     depth: u8,
     stacks: Vec<Stack>,
+    on: bool,
+    yields: u32,
 }
 
 impl Model for Signature {
@@ -47,16 +49,16 @@ impl Model for Signature {
 
     ghost Value = { Sig };
 
-    ghost view = { λ s. record { depth = s.depth; stacks = s.stacks.items } };
+    ghost view = { λ s. record { depth = s.depth; stacks = s.stacks.items; on = s.on; yields = s.yields } };
 
-    ghost invariant = { λ s. IsSig record { depth = s.depth; stacks = s.stacks.items } × AreSorted s.stacks.items };
+    ghost invariant = { λ s. IsSig record { depth = s.depth; stacks = s.stacks.items; on = s.on; yields = s.yields } × AreSorted s.stacks.items };
 }
 
 impl Signature {
-    /// The signature of these stacks, which it puts in order, with this depth.
+    /// The signature of these stacks, which it puts in order, with this depth. It is switched on and has 0 yields.
     pub fn new(alloc: Global, depth: u8, stacks: &[Stack]) -> Result<Signature, SigFault>
         requires { length stacks.now < 2 ^ 32 }
-        ensures ok { IfOk result (λ s. s ≡ record { depth = depth; stacks = sorted stacks.now }) }
+        ensures ok { IfOk result (λ s. s ≡ fresh depth (sorted stacks.now)) }
         ensures fault { IfSome (fault_of depth (length stacks.now)) (λ fault. result ≡ Err fault) }
         ensures cause { IfErr result (λ e. (e ≡ SigFault.OutOfMemory)
             ⊎ (fault_of depth (length stacks.now) ≡ Some e)) }
@@ -66,7 +68,21 @@ impl Signature {
         }
         let mut stacks = Vec::from_slice(alloc, stacks)?;
         sort_stacks(&mut stacks);
-        Ok(Signature { depth, stacks })
+        Ok(Signature::fresh(depth, stacks))
+    }
+
+    // The signature of stacks that stand in order, on and with 0 yields.
+    fn fresh(depth: u8, stacks: Vec<Stack>) -> Signature
+        requires signature { IsSig (fresh depth stacks.items) }
+        requires ordered { AreSorted stacks.items }
+        ensures { result ≡ fresh depth stacks.items }
+    {
+        Signature {
+            depth,
+            stacks,
+            on: true,
+            yields: 0,
+        }
     }
 
     /// How many frames must agree, from 1 to 32.
@@ -76,6 +92,20 @@ impl Signature {
         ensures high { result ≤ 32 }
     {
         self.depth
+    }
+
+    /// Whether it is switched on.
+    pub fn on(&self) -> bool
+        ensures { result ≡ self.now.on }
+    {
+        self.on
+    }
+
+    /// How many yields were counted; 4,294,967,295 stands for so many or more.
+    pub fn yields(&self) -> u32
+        ensures { result ≡ self.now.yields }
+    {
+        self.yields
     }
 
     /// How many stacks it has, from 2 to 32.
@@ -111,19 +141,45 @@ impl Signature {
         Ok(Signature {
             depth: self.depth,
             stacks: Vec::from_slice(alloc, &self.stacks)?,
+            on: self.on,
+            yields: self.yields,
         })
+    }
+
+    /// The same signature in this state and with so many yields.
+    pub fn noted(self, on: bool, yields: u32) -> Signature
+        ensures { result ≡ record self { on = on; yields = yields } }
+    {
+        let mut sig = self;
+        sig.on = on;
+        sig.yields = yields;
+        sig
+    }
+
+    // Puts it into this state.
+    pub(crate) fn switch(&mut self, on: bool)
+        ensures { self.new ≡ switched on self.old }
+    {
+        self.on = on;
+    }
+
+    // Counts so many yields more, up to the highest number.
+    pub(crate) fn count(&mut self, more: u32)
+        ensures { self.new ≡ counted more self.old }
+    {
+        self.yields = self.yields.saturating_add(more);
     }
 
     // The signature of these stacks, which stand in order, in a room for 32 of them.
     pub(crate) fn in_room(room: Vec<Stack>, depth: u8, sorted: &[Stack]) -> Signature
         requires room { IsRoom room }
-        requires signature { IsSig record { depth = depth; stacks = sorted.now } }
+        requires signature { IsSig (fresh depth sorted.now) }
         requires ordered { AreSorted sorted.now }
-        ensures { result ≡ record { depth = depth; stacks = sorted.now } }
+        ensures { result ≡ fresh depth sorted.now }
     {
         let mut stacks = room;
         stacks.extend_from_slice(sorted).unwrap();
-        Signature { depth, stacks }
+        Signature::fresh(depth, stacks)
     }
 }
 

@@ -1,6 +1,7 @@
 use Rattle.std.proofs.Common.{◌≡◌, length, map, arith, sym, ap, ◌∙◌, subst}
 use Rattle.std.proofs.lemmas.List.{length-map}
 use Rattle.dim_signature.specs.Sorted.{AreSorted}
+use Rattle.dim_history_file.specs.declared.opening.Opening.{Opening}
 use Rattle.dim_history_file.specs.Value.{named_stack}
 use Rattle.dim_history_file.specs.Grammar.{AreInOrder}
 use Rattle.dim_history_file.proofs.Comparing.{in_order_named, sorted_named}
@@ -27,8 +28,9 @@ signature-requires-clause-in_range c =
     ∙ ap length (c.in_ok-stacks.ensures.same ∙ ap (map (named_stack from)) c.as_slice.ensures.stacks)
     ∙ length-map c.args.sig.now.stacks (named_stack from) in
     record {
-      low = c.depth.ensures.low;
-      high = c.depth.ensures.high;
+      low = omega (arith, ap (λ (o : Opening). o.depth) c.of.ensures, sig.low);
+      high = omega (arith, ap (λ (o : Opening). o.depth) c.of.ensures, sig.high);
       some = omega (arith, size, sig.some);
       few = omega (arith, size, sig.few);
+      yields = omega (arith, ap (λ (o : Opening). o.yields) c.of.ensures, sig.yields);
     }
