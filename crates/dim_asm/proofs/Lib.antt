@@ -13,3 +13,4 @@ pub mod Sources
 pub mod Naming
 pub mod Unlinked
 pub mod Texts
+pub mod FirstLine

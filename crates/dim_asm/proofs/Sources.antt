@@ -14,16 +14,13 @@ use Rattle.dim_asm.specs.declared.reader.Stage.TheVariants as stage
 use Rattle.dim_asm.specs.Faults.{fault}
 use Rattle.dim_asm.specs.Code.{has_name, AreNames}
 use Rattle.dim_asm.specs.Source.{Source, Draft, DraftFunction, DraftStart, Statement, LockLine, FuncLine, OpLine, EndLine, ThreadLine, Close, draft_count, last_size, with_draft}
-use Rattle.dim_asm.specs.Judging.{State, after, nothing, step, at_end, closed, source_of}
+use Rattle.dim_asm.specs.Judging.{State, after, step, at_end, closed, start, source_of}
 use Rattle.dim_asm.specs.Spelling.{spelled, function_lines, down_to_locks, down_to_functions, down_to_threads, lines_so_far, text_of, source_text}
 use Rattle.dim_asm.specs.Grammar.{may_follow, IsDraft, HasPlace, IsOpen, IsStart, AreFilled, Fits, IsSource}
 use Rattle.dim_asm.proofs.SourceLemmas.{draft_count-cons}
 use Rattle.dim_asm.proofs.Fitting.{differ, or_false, last_size-more, step_moves, end_whole, fits_start}
 use Rattle.dim_asm.proofs.Judged.{one_line, placed_judged}
 use Rattle.dim_asm.proofs.Printed.{text-push}
-
-abbrev start : State
-start = record { stage = stage.Head; source = nothing }
 
 -- ---- what is read is spelled so
 abbrev front : State → List ℕ

@@ -1,5 +1,5 @@
 -- The first pass: what a line says, by what was read before it, or the first kind of fault that applies to it.
-use Rattle.std.specs.Prelude.{ℕ, Bool, true, false, ◌==◌, List, [], ◌∷◌, length, Result, Ok, Err, if◌then◌else◌, codes}
+use Rattle.std.specs.Prelude.{ℕ, ◌==◌, List, [], ◌∷◌, length, Result, Ok, Err, if◌then◌else◌, codes}
 use Rattle.std.specs.Str.{bytes_eq}
 use Rattle.dim_text.specs.Cuts.{words_of, lines_of}
 use Rattle.dim_text.specs.Numerals.{number_of, signed_of}
@@ -158,6 +158,10 @@ at_end s (b ∷ last) = Err Word
 abbrev pub nothing : Source
 nothing = record { locks = []; funcs = []; threads = [] }
 
+-- before the first line
+abbrev pub start : State
+start = record { stage = stage.Head; source = nothing }
+
 -- what a text says, or the first fault of the first pass
 abbrev pub source_of : List ℕ → Result Source AsmFault
-source_of bytes = read_from fault step at_end (record { stage = stage.Head; source = nothing }) 1 (lines_of bytes)
+source_of bytes = read_from fault step at_end start 1 (lines_of bytes)

@@ -3,6 +3,7 @@ pub mod Code
 pub mod Bound
 pub mod Faults
 pub mod Judging
+pub mod Places
 pub mod Linking
 pub mod Source
 pub mod Table

@@ -21,7 +21,7 @@ mod symbols;
 pub use assembler::assemble;
 pub use binding::bind_law;
 pub use fault::{AsmError, AsmFault, AsmKind};
-pub use laws::text_law;
+pub use laws::{first_fault_law, text_law};
 pub use op::Op;
 pub use printing::print;
 pub use program::Program;

@@ -2,7 +2,6 @@ pub mod Comparing
 pub mod Judged
 pub mod Moving
 pub mod Numbered
-pub mod Placing
 pub mod Renewing
 pub mod Spelled
 pub mod Using

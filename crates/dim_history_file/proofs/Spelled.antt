@@ -165,8 +165,8 @@ unfolding short_form long_form
 spelled_form One o is says =
     rw (filled_number o.depth (omega (arith, is.high)), filled_number o.count (omega (arith, is.few)))
     (ap (λ on. form_with (decimal o.depth) (decimal o.count) on (codes "0")) (sym says.0)
-      ∙ ap (λ word. form_with (decimal o.depth) (decimal o.count) o.on word) nought
-      ∙ ap (λ n. form_with (decimal o.depth) (decimal o.count) o.on (decimal n)) (sym says.1))
+    ∙ ap (λ word. form_with (decimal o.depth) (decimal o.count) o.on word) nought
+    ∙ ap (λ n. form_with (decimal o.depth) (decimal o.count) o.on (decimal n)) (sym says.1))
 spelled_form Two o is says =
     rw (
       filled_number o.depth (omega (arith, is.high)),

@@ -1,5 +1,5 @@
 -- What is so where words are taken.
-use Rattle.std.proofs.Common.{◌≡◌, ◌≤◌, ◌<◌, ◌^◌, ℕ, Bool, true, false, ◌⊎◌, inl, inr, cond, List, [], ◌∷◌, Option, Some, None, Result, Ok, Err, refl, ap, ◌∙◌, arith, option_and_then, nat_le, leb-true}
+use Rattle.std.proofs.Common.{◌≡◌, ◌≤◌, ◌<◌, ◌^◌, ℕ, Bool, true, false, ◌⊎◌, inl, inr, cond, List, [], ◌∷◌, Option, Some, None, Ok, refl, ap, ◌∙◌, arith, option_and_then, nat_le, leb-true}
 use Rattle.std.specs.Fmt.{decimal}
 use Rattle.dim_text.specs.Numerals.{number_of, at_least, number_from}
 use Rattle.dim_text.specs.Reading.{◌>>=◌}

@@ -2,5 +2,6 @@ pub mod Cuts
 pub mod Numerals
 pub mod Naming
 pub mod Reading
+pub mod Places
 pub mod Stops
 pub mod Words

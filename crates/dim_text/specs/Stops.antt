@@ -1,5 +1,5 @@
 -- Why the reading of a line stops.
-use Rattle.std.specs.Prelude.{Option, Some, None, Result, Ok, Err}
+use Rattle.std.specs.Prelude.{Option, Some, None}
 use Rattle.dim_text.specs.declared.stop.Stop.{Stop}
 use Rattle.dim_text.specs.declared.stop.Stop.TheVariants.{Bad, OutOfMemory}
 

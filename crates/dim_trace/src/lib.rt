@@ -21,7 +21,9 @@ mod writing;
 
 pub use checking::{check, check_kept};
 pub use fault::{TraceError, TraceFault, TraceKind};
-pub use laws::{entries_law, length_law, reading_law, spelling_law, verdict_law, words_law};
+pub use laws::{
+    entries_law, first_fault_law, length_law, reading_law, spelling_law, verdict_law, words_law,
+};
 pub use reading::{read_kept, read_trace};
 pub use trace::{KeptTrace, Trace};
 pub use verdict::{Rule, Verdict};
