@@ -44,7 +44,9 @@ impl<'a> DraftFunction<'a> {
 
     /// Appends an instruction.
     pub fn push(&mut self, draft: Draft<'a>) -> Result<(), OutOfMemory>
-        ensures { OnOk result (self.new ≡ record self.old { drafts = self.old.drafts ++ seen_draft draft.entry ∷ [] }) }
+        ensures { OnOk result
+            (self.new
+            ≡ record self.old { drafts = self.old.drafts ++ seen_draft draft.entry ∷ [] }) }
     {
         self.drafts.push(draft)?;
         Ok(())

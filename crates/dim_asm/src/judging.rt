@@ -134,7 +134,8 @@ impl<'a> Reader<'a> {
     #[tactic(auto, unfolding(crate::specs::Judging::judged))]
     pub fn judge(&self, line: &'a [u8]) -> Result<Statement<'a>, AsmKind>
         requires { IsCounted self.now }
-        ensures { Gives Some seen_statement result (judged self.now.stage (read self.now) line.now) }
+        ensures { Gives Some seen_statement result
+            (judged self.now.stage (read self.now) line.now) }
     {
         let mut words = Parts::words(line);
         match self.stage {

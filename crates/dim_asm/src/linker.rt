@@ -72,7 +72,9 @@ impl<'t> Tables<'t> {
     // The instructions of a function, where the first stands in this line.
     fn drafts(&self, alloc: Global, drafts: &[Draft], first: u32) -> Result<Vec<Op>, AsmError>
         requires { first + length drafts.now < 2 ^ 32 }
-        ensures { Gives fault_of (λ ops. ops.items) result (each_line (link_draft (seen self.now) (length drafts.now)) first (map seen_draft drafts.now)) }
+        ensures { Gives fault_of (λ ops. ops.items) result
+            (each_line (link_draft (seen self.now) (length drafts.now)) first
+            (map seen_draft drafts.now)) }
     {
         let mut ops = Vec::new(alloc);
         let mut line = first;
@@ -113,7 +115,8 @@ impl<'t> Tables<'t> {
         first: u32,
     ) -> Result<Vec<Function>, AsmError>
         requires { first + draft_count drafts.now + 2 * length drafts.now < 2 ^ 32 }
-        ensures { Gives fault_of (λ funcs. funcs.items) result (link_functions (seen self.now) first drafts.now) }
+        ensures { Gives fault_of (λ funcs. funcs.items) result
+            (link_functions (seen self.now) first drafts.now) }
     {
         let mut funcs = Vec::new(alloc);
         let mut line = first;
@@ -133,7 +136,8 @@ impl<'t> Tables<'t> {
         first: u32,
     ) -> Result<Vec<Start>, AsmError>
         requires { first + length drafts.now < 2 ^ 32 }
-        ensures { Gives fault_of (λ starts. starts.items) result (each_line (link_start (seen self.now)) first drafts.now) }
+        ensures { Gives fault_of (λ starts. starts.items) result
+            (each_line (link_start (seen self.now)) first drafts.now) }
     {
         let mut starts = Vec::new(alloc);
         let mut line = first;

@@ -27,7 +27,8 @@ fn text_of_program(alloc: Global, program: &Program) -> Result<String, AllocErro
 /// The one text of a program. It's assembled again to the same program, bound to the table of its own names.
 pub fn print(alloc: Global, program: &Program) -> Result<Bytes, OutOfMemory>
     ensures text { IfOk result (λ bytes. bytes ≡ program_text program.now) }
-    ensures again { IfOk result (λ bytes. program_of bytes ≡ Ok (bound (own_names program.now) program.now)) }
+    ensures again { IfOk result
+        (λ bytes. program_of bytes ≡ Ok (bound (own_names program.now) program.now)) }
 {
     let text = text_of_program(alloc, program)?;
     Ok(Bytes::from_vec(text.into_bytes()))

@@ -100,7 +100,8 @@ impl Program {
     // A function, if there is one of this number.
     fn func(&self, f: u32) -> Option<&Function>
         ensures func { option_copied result ≡ slice_get self.now.funcs f }
-        ensures sound { IfSome result (λ func. IsFunction (lock_count self.now) (func_count self.now) func.now) }
+        ensures sound { IfSome result
+            (λ func. IsFunction (lock_count self.now) (func_count self.now) func.now) }
         ensures short { IfSome result (λ func. length func.now.ops ≤ 65536) }
         ensures locks { lock_count self.now ≤ 256 }
     {

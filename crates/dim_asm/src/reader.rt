@@ -82,7 +82,8 @@ impl<'a> Reader<'a> {
         requires counted { IsCounted self.old }
         requires free { has_name self.old.names name.now ≡ false }
         requires few { length self.old.names < 256 }
-        ensures taken { OnOk result (read self.new ≡ taken (FuncLine name.now locals) (read self.old)) }
+        ensures taken { OnOk result
+            (read self.new ≡ taken (FuncLine name.now locals) (read self.old)) }
         ensures counted { OnOk result (IsCounted self.new) }
     {
         self.names.add(alloc, name)?;
@@ -99,7 +100,8 @@ impl<'a> Reader<'a> {
         requires counted { IsCounted self.old }
         requires some { 0 < vec_len self.old.funcs }
         requires few { self.old.ops < 65536 }
-        ensures taken { OnOk result (read self.new ≡ taken (OpLine (seen_draft draft.entry)) (read self.old)) }
+        ensures taken { OnOk result
+            (read self.new ≡ taken (OpLine (seen_draft draft.entry)) (read self.old)) }
         ensures counted { OnOk result (IsCounted self.new) }
     {
         let last = self.funcs.len() - 1;
@@ -110,7 +112,8 @@ impl<'a> Reader<'a> {
     }
 
     fn take_thread(&mut self, func: &'a str, argument: i64) -> Result<(), OutOfMemory>
-        ensures taken { OnOk result (read self.new ≡ taken (ThreadLine func.now argument) (read self.old)) }
+        ensures taken { OnOk result
+            (read self.new ≡ taken (ThreadLine func.now argument) (read self.old)) }
         ensures counted { IsCounted self.old → IsCounted self.new }
     {
         self.threads.push(DraftStart { func, argument })?;
@@ -121,7 +124,8 @@ impl<'a> Reader<'a> {
     fn grow(&mut self, alloc: Global, statement: Statement<'a>) -> Result<(), OutOfMemory>
         requires counted { IsCounted self.old }
         requires room { HasRoom (seen_statement statement) (read self.old) }
-        ensures taken { OnOk result (read self.new ≡ taken (seen_statement statement.entry) (read self.old)) }
+        ensures taken { OnOk result
+            (read self.new ≡ taken (seen_statement statement.entry) (read self.old)) }
         ensures counted { OnOk result (IsCounted self.new) }
     {
         match statement {
@@ -137,7 +141,8 @@ impl<'a> Reader<'a> {
     fn take(&mut self, alloc: Global, statement: Statement<'a>) -> Result<(), OutOfMemory>
         requires counted { IsCounted self.old }
         requires room { HasRoom (seen_statement statement) (read self.old) }
-        ensures taken { OnOk result (state_of self.new ≡ after (seen_statement statement.entry) (state_of self.old)) }
+        ensures taken { OnOk result
+            (state_of self.new ≡ after (seen_statement statement.entry) (state_of self.old)) }
         ensures counted { OnOk result (IsCounted self.new) }
     {
         self.grow(alloc, statement)?;
@@ -150,7 +155,8 @@ impl<'a> Reader<'a> {
     pub fn step(&mut self, alloc: Global, number: u32, line: &'a [u8]) -> Result<(), AsmError>
         requires counted { IsCounted self.old }
         requires fits { Fits (state_of self.old) }
-        ensures step { Leaves fault_of (state_of self.new) result (in_line fault number (step (state_of self.old) line.now)) }
+        ensures step { Leaves fault_of (state_of self.new) result
+            (in_line fault number (step (state_of self.old) line.now)) }
         ensures counted { OnOk result (IsCounted self.new) }
     {
         let statement = in_line(number, self.judge(line))?;

@@ -63,7 +63,10 @@ fn lock_name(program: &Program, l: Lid) -> &str
 // Appends the line of an instruction.
 fn put_op(text: &mut String, program: &Program, op: &Op) -> Result<(), AllocError>
     requires { IsFine (lock_count program.now) (func_count program.now) op.now }
-    ensures line { OnOk result (string_bytes text.new ≡ string_bytes text.old ++ ended (spelled (OpLine (named_op (names_in program.now) op.now)))) }
+    ensures line { OnOk result
+        (string_bytes text.new
+        ≡ string_bytes text.old ++ ended
+        (spelled (OpLine (named_op (names_in program.now) op.now)))) }
     ensures width { OnOk result (HasWidth op.now) }
 {
     let word = word(op);
@@ -89,7 +92,10 @@ fn put_op(text: &mut String, program: &Program, op: &Op) -> Result<(), AllocErro
 // Appends the lines of a function.
 fn put_func(text: &mut String, program: &Program, func: &Function) -> Result<(), AllocError>
     requires { All (IsFine (lock_count program.now) (func_count program.now)) func.now.ops }
-    ensures lines { OnOk result (string_bytes text.new ≡ string_bytes text.old ++ text_of (function_lines (named_function (names_in program.now) func.now))) }
+    ensures lines { OnOk result
+        (string_bytes text.new
+        ≡ string_bytes text.old ++ text_of
+        (function_lines (named_function (names_in program.now) func.now))) }
     ensures width { OnOk result (All HasWidth func.now.ops) }
 {
     let name = func.name.as_str();
@@ -103,7 +109,9 @@ fn put_func(text: &mut String, program: &Program, func: &Function) -> Result<(),
 
 /// Appends the lines of the locks.
 pub fn put_locks(text: &mut String, program: &Program) -> Result<(), AllocError>
-    ensures { OnOk result (string_bytes text.new ≡ string_bytes text.old ++ text_of (map (λ name. LockLine name) program.now.locks)) }
+    ensures { OnOk result
+        (string_bytes text.new
+        ≡ string_bytes text.old ++ text_of (map (λ name. LockLine name) program.now.locks)) }
 {
     for l in 0..program.locks() {
         let name = lock_name(program, Lid(l));
@@ -114,7 +122,10 @@ pub fn put_locks(text: &mut String, program: &Program) -> Result<(), AllocError>
 
 /// Appends the lines of the functions.
 pub fn put_funcs(text: &mut String, program: &Program) -> Result<(), AllocError>
-    ensures lines { OnOk result (string_bytes text.new ≡ string_bytes text.old ++ text_of (flat_map function_lines (map (named_function (names_in program.now)) program.now.funcs))) }
+    ensures lines { OnOk result
+        (string_bytes text.new
+        ≡ string_bytes text.old ++ text_of
+        (flat_map function_lines (map (named_function (names_in program.now)) program.now.funcs))) }
     ensures width { OnOk result (All (λ f. All HasWidth f.ops) program.now.funcs) }
 {
     for func in &program.funcs {
@@ -126,7 +137,10 @@ pub fn put_funcs(text: &mut String, program: &Program) -> Result<(), AllocError>
 // Appends the line of a thread.
 fn put_thread(text: &mut String, program: &Program, start: Start) -> Result<(), AllocError>
     requires { start.func < func_count program.now }
-    ensures line { OnOk result (string_bytes text.new ≡ string_bytes text.old ++ ended (spelled (thread_line (named_start (names_in program.now) start)))) }
+    ensures line { OnOk result
+        (string_bytes text.new
+        ≡ string_bytes text.old ++ ended
+        (spelled (thread_line (named_start (names_in program.now) start)))) }
     ensures width { FitsSigned w64 start.argument }
 {
     let name = func_name(program, start.func);
@@ -136,7 +150,10 @@ fn put_thread(text: &mut String, program: &Program, start: Start) -> Result<(), 
 
 /// Appends the lines of the threads.
 pub fn put_threads(text: &mut String, program: &Program) -> Result<(), AllocError>
-    ensures lines { OnOk result (string_bytes text.new ≡ string_bytes text.old ++ text_of (map thread_line (map (named_start (names_in program.now)) program.now.threads))) }
+    ensures lines { OnOk result
+        (string_bytes text.new
+        ≡ string_bytes text.old ++ text_of
+        (map thread_line (map (named_start (names_in program.now)) program.now.threads))) }
     ensures width { OnOk result (All (λ s. FitsSigned w64 s.argument) program.now.threads) }
 {
     for start in &program.threads {

@@ -59,7 +59,8 @@ pub trait Files {
     fn fetch(&mut self, alloc: Global, name: &Word, limit: u64) -> Result<Bytes, Fetch>
         ensures limit { IfOk result (λ bytes. length bytes ≤ limit) }
         ensures long { SaysLimit limit result }
-        ensures answer { IfSome (told self.old) (λ files. Fetches (fetched (files name.now) limit) result) }
+        ensures answer { IfSome (told self.old)
+            (λ files. Fetches (fetched (files name.now) limit) result) }
         ensures kept { told self.new ≡ told self.old }
         ensures cause { FetchCause (faults self.old) (faults self.new) result };
 

@@ -31,7 +31,8 @@ impl SureFiles {
 
     /// Puts a file in, in place of what stands under its name.
     pub fn give(&mut self, name: &Word, bytes: &[u8]) -> Result<(), OutOfMemory>
-        ensures ok { OnOk result (files_of self.new ≡ with_file (files_of self.old) name.now (Some bytes.now)) }
+        ensures ok { OnOk result
+            (files_of self.new ≡ with_file (files_of self.old) name.now (Some bytes.now)) }
         ensures err { OnErr result (files_of self.new ≡ files_of self.old) }
     {
         let key = String::from_str(self.alloc, name.as_str())?;
@@ -99,7 +100,8 @@ impl MemFiles {
 
     /// Puts a file in, in place of what stands under its name. It is counted as no call.
     pub fn give(&mut self, name: &Word, bytes: &[u8]) -> Result<(), OutOfMemory>
-        ensures ok { OnOk result (files_of self.new ≡ with_file (files_of self.old) name.now (Some bytes.now)) }
+        ensures ok { OnOk result
+            (files_of self.new ≡ with_file (files_of self.old) name.now (Some bytes.now)) }
         ensures err { OnErr result (files_of self.new ≡ files_of self.old) }
         ensures calls { calls_of self.new ≡ calls_of self.old }
         ensures failing { failing_of self.new ≡ failing_of self.old }
@@ -135,7 +137,8 @@ impl Files for MemFiles {
         // It fails exactly where the number of the call is in the list.
         ensures counted { calls_of self.new ≡ next_call (calls_of self.old) }
         ensures failing { failing_of self.new ≡ failing_of self.old }
-        ensures fails { IsErrOf result Fetch.Failed ↔ Contains (failing_of self.old) (calls_of self.new) }
+        ensures fails { IsErrOf result Fetch.Failed
+            ↔ Contains (failing_of self.old) (calls_of self.new) }
     {
         if self.calls.next_fails() {
             self.faults = self.faults.saturating_add(1);
@@ -145,16 +148,21 @@ impl Files for MemFiles {
     }
 
     fn store(&mut self, alloc: Global, name: &Word, bytes: &[u8]) -> Result<(), Store>
-        ensures stored { Stores name.now bytes.now (Some (files_of self.old)) (Some (files_of self.new)) result }
+        ensures stored { Stores name.now bytes.now (Some (files_of self.old))
+            (Some (files_of self.new)) result }
         ensures cause { StoreCause self.old.faults self.new.faults result }
         ensures count { self.new.faults ≡ store_count self.old.faults result }
 
         // It fails exactly where the number of the call is in the list, unless memory runs out, and leaves a half then.
         ensures counted { calls_of self.new ≡ next_call (calls_of self.old) }
         ensures failing { failing_of self.new ≡ failing_of self.old }
-        ensures fails { IsErrOf result Store.Failed → Contains (failing_of self.old) (calls_of self.new) }
+        ensures fails { IsErrOf result Store.Failed
+            → Contains (failing_of self.old) (calls_of self.new) }
         ensures succeeds { OnOk result (¬ Contains (failing_of self.old) (calls_of self.new)) }
-        ensures half { IsErrOf result Store.Failed → files_of self.new ≡ with_file (files_of self.old) name.now (Some (take (length bytes.now / 2) bytes.now)) }
+        ensures half { IsErrOf result Store.Failed
+            → files_of self.new
+            ≡ with_file (files_of self.old) name.now
+            (Some (take (length bytes.now / 2) bytes.now)) }
     {
         if !self.calls.next_fails() {
             return self.sure.store(alloc, name, bytes);

@@ -100,16 +100,19 @@ impl Sink for MemSink {
     ghost faults = { λ s. s.faults };
 
     fn put(&mut self, _alloc: Global, bytes: &[u8]) -> Result<(), Put>
-        ensures taken { Puts bytes.now (Some (bytes_of self.old)) (Some (bytes_of self.new)) result }
+        ensures taken { Puts bytes.now (Some (bytes_of self.old)) (Some (bytes_of self.new))
+            result }
         ensures cause { PutCause self.old.faults self.new.faults result }
         ensures count { self.new.faults ≡ put_count self.old.faults result }
 
         // It fails exactly where the number of the call is in the list, unless memory runs out, and leaves a half then.
         ensures counted { calls_of self.new ≡ next_call (calls_of self.old) }
         ensures failing { failing_of self.new ≡ failing_of self.old }
-        ensures fails { IsErrOf result Put.Failed → Contains (failing_of self.old) (calls_of self.new) }
+        ensures fails { IsErrOf result Put.Failed
+            → Contains (failing_of self.old) (calls_of self.new) }
         ensures succeeds { OnOk result (¬ Contains (failing_of self.old) (calls_of self.new)) }
-        ensures half { IsErrOf result Put.Failed → bytes_of self.new ≡ bytes_of self.old ++ take (length bytes.now / 2) bytes.now }
+        ensures half { IsErrOf result Put.Failed
+            → bytes_of self.new ≡ bytes_of self.old ++ take (length bytes.now / 2) bytes.now }
     {
         if !self.calls.next_fails() {
             self.sure.take(bytes)?;

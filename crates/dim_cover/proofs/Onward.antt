@@ -1,11 +1,11 @@
 -- A new edge is linked at each depth once, from the youngest slot to the oldest: an older one goes on to a younger one that agrees.
-use Rattle.std.proofs.Common.{◌≡◌, ℕ, zero, suc, ◌+◌, ◌<◌, true, false, cond, refl, ap, sym, ◌∙◌, subst, inl, inr, ◌⊎◌, arith, List, [], ◌∷◌, ◌++◌, length, take, drop, get_or, take-append-drop, drop-cons}
+use Rattle.std.proofs.Common.{◌≡◌, ℕ, zero, suc, ◌+◌, ◌<◌, true, cond, refl, ap, sym, ◌∙◌, subst, inl, inr, ◌⊎◌, arith, List, [], ◌∷◌, ◌++◌, length, take, drop, get_or, take-append-drop, drop-cons}
 use Rattle.std.specs.Prelude.{nat_lt}
 use Rattle.std.proofs.lemmas.Bool.{cases_Bool, false≢true}
 use Rattle.dim_stack.specs.declared.Frame.{Frame}
 use Rattle.dim_rag.specs.declared.entry.Edge.{Edge}
 use Rattle.dim_rag.specs.Born.{In}
-use Rattle.dim_rag.proofs.Among.{in_left, in_right, in_parts}
+use Rattle.dim_rag.proofs.Among.{in_right, in_parts}
 use Rattle.dim_cover.specs.Cover.{agrees}
 use Rattle.dim_cover.specs.Index.{AreDistinct, AreLinked, AreTurned, IsLink, common, edge_in, link, next_of, on_at, turned}
 use Rattle.dim_cover.proofs.Groups.{same_frames, frames_same}

@@ -60,7 +60,8 @@ fn frame(names: &Names, word: &[u8]) -> Result<Frame, FileKind>
 // The frames that words spell.
 fn frames(alloc: Global, names: &Names, mut words: Parts) -> Result<Vec<Frame>, Stop<FileKind>>
     requires { HasNames names.now (names_in_words words) }
-    ensures value { Gives kind_of (λ fs. map (named_frame names.now) fs.items) result (frames_of words.entry) }
+    ensures value { Gives kind_of (λ fs. map (named_frame names.now) fs.items) result
+        (frames_of words.entry) }
     ensures named { IfOk result (λ fs. IsNamedBy names.now fs.items) }
     ensures len { IfOk result (λ fs. length fs.items ≡ length words.entry) }
 {

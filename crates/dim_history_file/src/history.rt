@@ -26,7 +26,8 @@ impl History {
 
     /// No signature and no name.
     pub fn empty(alloc: Global) -> Result<History, OutOfMemory>
-        ensures { IfOk result (λ h. (h.names ≡ []) × (h.catalogue ≡ record { sigs = []; spare = 0 })) }
+        ensures { IfOk result (λ h. (h.names ≡ [])
+            × (h.catalogue ≡ record { sigs = []; spare = 0 })) }
     {
         Ok(History {
             names: Names::of(alloc, &[])?,
@@ -40,8 +41,10 @@ impl History {
         ensures table { IsTable self.now.names }
         ensures catalogue { IsCatalogue self.now.catalogue.sigs }
         ensures named { AreNamed self.now.names self.now.catalogue.sigs }
-        ensures numbered { numbered self.now.names (named self.now.names self.now.catalogue.sigs) ≡ self.now.catalogue.sigs }
-        ensures history { AreSized self.now.catalogue.sigs → AreNear self.now.catalogue.sigs → IsHistory (named self.now.names self.now.catalogue.sigs) }
+        ensures numbered { numbered self.now.names (named self.now.names self.now.catalogue.sigs)
+            ≡ self.now.catalogue.sigs }
+        ensures history { AreSized self.now.catalogue.sigs → AreNear self.now.catalogue.sigs
+            → IsHistory (named self.now.names self.now.catalogue.sigs) }
     {
         name_number_law();
         let _names = self.names.len();

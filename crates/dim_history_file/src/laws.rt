@@ -10,16 +10,20 @@ ghost use Rattle.dim_history_file.specs.declared.version.Version.TheVariants.{On
 
 /// A text that is read as a history is a text of that history, and the only one of its version.
 pub fn spelling_law()
-    ensures text { (bytes : List ℕ) (sigs : List NamedSig) → history_of bytes ≡ Ok sigs → IsTextOf bytes sigs }
-    ensures history { (bytes : List ℕ) (sigs : List NamedSig) → history_of bytes ≡ Ok sigs → IsHistory sigs }
+    ensures text { (bytes : List ℕ) (sigs : List NamedSig) → history_of bytes ≡ Ok sigs
+        → IsTextOf bytes sigs }
+    ensures history { (bytes : List ℕ) (sigs : List NamedSig) → history_of bytes ≡ Ok sigs
+        → IsHistory sigs }
     ensures only { (bytes : List ℕ) (sigs : List NamedSig) (version : Version) →
         history_of bytes ≡ Ok sigs → HasHead version bytes → bytes ≡ text_in version sigs }
 {}
 
 /// The text of a history is read as that history; and that of version 1 as the one with its signatures, all on with 0 yields.
 pub fn reading_law()
-    ensures again { (sigs : List NamedSig) → IsHistory sigs → history_of (history_text sigs) ≡ Ok sigs }
-    ensures migrated { (sigs : List NamedSig) → IsHistory sigs → history_of (text_in One sigs) ≡ Ok (migrated sigs) }
+    ensures again { (sigs : List NamedSig) → IsHistory sigs
+        → history_of (history_text sigs) ≡ Ok sigs }
+    ensures migrated { (sigs : List NamedSig) → IsHistory sigs
+        → history_of (text_in One sigs) ≡ Ok (migrated sigs) }
 {}
 
 /// Which fault a text has, by the places of its lines: where all lines before one are taken, each in the state that the one before it led to, and that

@@ -14,7 +14,8 @@ const MOST_NAMES: usize = 4294967295;
 
 // The name of the frame that a word is, if it has one.
 fn name_in(word: &[u8]) -> Option<&str>
-    ensures { MatchOption result (names_in_word word.now ≡ []) (λ name. names_in_word word.now ≡ name.now ∷ []) }
+    ensures { MatchOption result (names_in_word word.now ≡ [])
+        (λ name. names_in_word word.now ≡ name.now ∷ []) }
 {
     let (function, _) = frame_sides(word)?;
     name(function)

@@ -75,7 +75,8 @@ impl Reader {
     // `dim history 1` or `dim history 2`
     #[tactic(auto, unfolding(crate::specs::Judging::head_line))]
     fn head_line(&mut self, line: &[u8]) -> Result<(), FileKind>
-        ensures value { Leaves Some (state_of self.new) result (head_line (sigs_of self.old) line.now) }
+        ensures value { Leaves Some (state_of self.new) result
+            (head_line (sigs_of self.old) line.now) }
         ensures names { self.new.names ≡ self.old.names }
         ensures reading { IsReading self.old → IsReading self.new }
     {
@@ -87,7 +88,8 @@ impl Reader {
     // `signature DEPTH COUNT`, and from version 2 on with STATE and YIELDS
     #[tactic(auto, unfolding(crate::specs::Judging::signature_line))]
     fn signature_line(&mut self, words: &mut Parts) -> Result<(), FileKind>
-        ensures value { Leaves Some (state_of self.new) result (signature_line self.old.version (sigs_of self.old) words.old) }
+        ensures value { Leaves Some (state_of self.new) result
+            (signature_line self.old.version (sigs_of self.old) words.old) }
         ensures names { self.new.names ≡ self.old.names }
         ensures reading { IsReading self.old → IsReading self.new }
     {
@@ -102,7 +104,8 @@ impl Reader {
     // `end N`
     #[tactic(auto, unfolding(crate::specs::Judging::end_line))]
     fn end_line(&mut self, words: &mut Parts) -> Result<(), FileKind>
-        ensures value { Leaves Some (state_of self.new) result (end_line self.old.version (sigs_of self.old) words.old) }
+        ensures value { Leaves Some (state_of self.new) result
+            (end_line self.old.version (sigs_of self.old) words.old) }
         ensures names { self.new.names ≡ self.old.names }
         ensures reading { IsReading self.old → IsReading self.new }
     {
@@ -116,7 +119,8 @@ impl Reader {
     // A line where a signature or the end is due.
     #[tactic(auto, unfolding(crate::specs::Judging::due_line))]
     fn due_line(&mut self, words: &mut Parts) -> Result<(), FileKind>
-        ensures value { Leaves Some (state_of self.new) result (due_line self.old.version (sigs_of self.old) words.old) }
+        ensures value { Leaves Some (state_of self.new) result
+            (due_line self.old.version (sigs_of self.old) words.old) }
         ensures names { self.new.names ≡ self.old.names }
         ensures reading { IsReading self.old → IsReading self.new }
     {
@@ -131,7 +135,8 @@ impl Reader {
     fn is_less_than_last(&self, stack: &Stack) -> bool
         requires reading { IsReading self.now }
         requires named { IsNamedBy self.now.names stack.now }
-        ensures { result ≡ is_less_than_last (named_stack self.now.names stack.now) (map (named_stack self.now.names) self.now.stacks.items) }
+        ensures { result ≡ is_less_than_last (named_stack self.now.names stack.now)
+            (map (named_stack self.now.names) self.now.stacks.items) }
     {
         match self.stacks.last() {
             Some(last) => compare(stack, last).is_lt(),
@@ -187,7 +192,8 @@ impl Reader {
         requires reading { IsReading self.old }
         requires fits { Fits (state_of self.old) }
         requires covers { HasNames self.old.names (names_in_line line.now) }
-        ensures value { Leaves kind_of (state_of self.new) result (step (state_of self.old) line.now) }
+        ensures value { Leaves kind_of (state_of self.new) result
+            (step (state_of self.old) line.now) }
         ensures names { self.new.names ≡ self.old.names }
         ensures reading { OnOk result (IsReading self.new) }
     {
@@ -205,7 +211,8 @@ impl Reader {
         requires reading { IsReading self.old }
         requires fits { Fits (state_of self.old) }
         requires covers { HasNames self.old.names (names_in_line line.now) }
-        ensures value { Leaves fault_of (state_of self.new) result (in_line fault number (step (state_of self.old) line.now)) }
+        ensures value { Leaves fault_of (state_of self.new) result
+            (in_line fault number (step (state_of self.old) line.now)) }
         ensures names { self.new.names ≡ self.old.names }
         ensures reading { OnOk result (IsReading self.new) }
     {
@@ -215,7 +222,8 @@ impl Reader {
     /// Whether the text may end here.
     #[tactic(auto, unfolding(crate::specs::Judging::at_end))]
     pub fn finish(&self, last: &[u8]) -> Result<(), Stop<FileKind>>
-        ensures { Gives kind_of (λ _. sigs_of self.now) result (at_end (state_of self.now) last.now) }
+        ensures { Gives kind_of (λ _. sigs_of self.now) result
+            (at_end (state_of self.now) last.now) }
     {
         match self.stage {
             Stage::Closed if last.is_empty() => Ok(()),

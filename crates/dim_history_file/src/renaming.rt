@@ -64,7 +64,8 @@ fn renamed_stacks(
 ) -> Result<Vec<Stack>, OutOfMemory>
     requires named { All (IsNamedBy from.now) stacks.now }
     requires covers { HasNames to.now from.now }
-    ensures same { IfOk result (λ s. map (named_stack to.now) s.items ≡ map (named_stack from.now) stacks.now) }
+    ensures same { IfOk result
+        (λ s. map (named_stack to.now) s.items ≡ map (named_stack from.now) stacks.now) }
     ensures named { IfOk result (λ s. All (IsNamedBy to.now) s.items) }
 {
     let mut renamed = Vec::new(alloc);
@@ -124,7 +125,8 @@ pub fn rename(alloc: Global, h: History, names: &Names) -> Result<History, OutOf
     ensures names { IfOk result (λ r. r.names ≡ names.now) }
     ensures value { IfOk result (λ r. value_of r ≡ value_of h) }
     ensures near { AreNear h.catalogue.sigs → IfOk result (λ r. AreNear r.catalogue.sigs) }
-    ensures depths { IfOk result (λ r. map (λ s. s.depth) r.catalogue.sigs ≡ map (λ s. s.depth) h.catalogue.sigs) }
+    ensures depths { IfOk result (λ r. map (λ s. s.depth) r.catalogue.sigs
+        ≡ map (λ s. s.depth) h.catalogue.sigs) }
 {
     let names = copied(alloc, names)?;
     let catalogue = renamed_catalogue(alloc, &h, &names)?;

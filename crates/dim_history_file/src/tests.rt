@@ -59,9 +59,15 @@ fn a_history_is_read_and_written_again(rt: HostRuntime) -> Result<(), Fail> {
 fn states_and_yields_stay(rt: HostRuntime) -> Result<(), Fail> {
     let h = read(rt.alloc(), PAIR_OFF.as_bytes())?;
     assert_eq!(rt; h.catalogue.len(), 1);
-    assert_eq!(rt; (h.catalogue.get(0).on(), h.catalogue.get(0).yields()), (false, 0));
+    assert_eq!(rt;
+        (h.catalogue.get(0).on(), h.catalogue.get(0).yields()),
+        (false, 0)
+    );
     let text = written(rt.alloc(), PAIR_OFF)?;
-    assert_eq!(rt; (text.as_slice(), PAIR_OFF.len()), (PAIR_OFF.as_bytes(), 55));
+    assert_eq!(rt;
+        (text.as_slice(), PAIR_OFF.len()),
+        (PAIR_OFF.as_bytes(), 55)
+    );
     let most = "dim history 2\nsignature 32 2 off 4294967295\na:0\na:0\nend 1\n";
     let text = written(rt.alloc(), most)?;
     assert_eq!(rt; text.as_slice(), most.as_bytes());

@@ -28,7 +28,9 @@ fn gap(i: u32) -> &'static str
 pub fn put_stack(text: &mut String, names: &Names, stack: &Stack) -> Result<(), AllocError>
     requires { IsNamedBy names.now stack.now }
     ensures sized { IsSized stack.now }
-    ensures line { OnOk result (string_bytes text.new ≡ string_bytes text.old ++ ended (spelled (StackLine (named_stack names.now stack.now)))) }
+    ensures line { OnOk result
+        (string_bytes text.new
+        ≡ string_bytes text.old ++ ended (spelled (StackLine (named_stack names.now stack.now)))) }
 {
     for i in 0..stack.len() {
         let gap = gap(i);
@@ -51,7 +53,9 @@ fn state_word(on: bool) -> &'static str
 fn put_signature(text: &mut String, names: &Names, sig: &Signature) -> Result<(), AllocError>
     requires { All (IsNamedBy names.now) sig.now.stacks }
     ensures sized { OnOk result (All IsSized sig.now.stacks) }
-    ensures lines { OnOk result (string_bytes text.new ≡ string_bytes text.old ++ text_of (sig_lines Two (named_sig names.now sig.now))) }
+    ensures lines { OnOk result
+        (string_bytes text.new
+        ≡ string_bytes text.old ++ text_of (sig_lines Two (named_sig names.now sig.now))) }
 {
     let depth = sig.depth();
     let count = sig.len();
@@ -82,7 +86,8 @@ fn text_of_history(alloc: Global, h: &History) -> Result<String, AllocError>
 pub fn write(alloc: Global, h: &History) -> Result<Bytes, OutOfMemory>
     ensures text { IfOk result (λ text. text ≡ history_text (value_of h.now)) }
     ensures history { IfOk result (λ _. AreNear h.now.catalogue.sigs → IsHistory (value_of h.now)) }
-    ensures again { IfOk result (λ text. AreNear h.now.catalogue.sigs → history_of text ≡ Ok (value_of h.now)) }
+    ensures again { IfOk result (λ text. AreNear h.now.catalogue.sigs
+        → history_of text ≡ Ok (value_of h.now)) }
 {
     let text = text_of_history(alloc, h)?;
     h.law();

@@ -102,7 +102,8 @@ impl Catalogue {
     /// Appends a signature, and answers its number. The room for signatures to be learnt stays.
     pub fn add(&mut self, sig: Signature) -> Result<u32, Add>
         ensures number { IfOk result (λ n. n ≡ length self.old.sigs) }
-        ensures added { OnOk result (self.new ≡ record self.old { sigs = self.old.sigs ++ sig ∷ [] }) }
+        ensures added { OnOk result
+            (self.new ≡ record self.old { sigs = self.old.sigs ++ sig ∷ [] }) }
         ensures err { OnErr result (self.new ≡ self.old) }
         ensures refusal { IfSome (refusal_of self.old.sigs sig.stacks) (λ e. result ≡ Err e) }
         ensures cause { IfErr result (λ e. (e ≡ Add.OutOfMemory)

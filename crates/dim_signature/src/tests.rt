@@ -166,20 +166,35 @@ fn one_signature_is_switched_and_counted(rt: HostRuntime) -> Result<(), Fail> {
     let alloc = rt.alloc();
     let mut catalogue = catalogue_of(alloc, &[6, 5])?;
     assert_eq!(rt; catalogue.len(), 2);
-    assert_eq!(rt; (catalogue.get(1).on(), catalogue.get(1).yields()), (true, 0));
+    assert_eq!(rt;
+        (catalogue.get(1).on(), catalogue.get(1).yields()),
+        (true, 0)
+    );
     catalogue.switch(1, false);
     catalogue.count(1, 7);
     catalogue.count(1, 4294967287);
-    assert_eq!(rt; (catalogue.get(1).on(), catalogue.get(1).yields()), (false, 4294967294));
+    assert_eq!(rt;
+        (catalogue.get(1).on(), catalogue.get(1).yields()),
+        (false, 4294967294)
+    );
     catalogue.count(1, 9);
     assert_eq!(rt; catalogue.get(1).yields(), 4294967295);
-    assert_eq!(rt; (catalogue.get(0).on(), catalogue.get(0).yields()), (true, 0));
+    assert_eq!(rt;
+        (catalogue.get(0).on(), catalogue.get(0).yields()),
+        (true, 0)
+    );
     assert_eq!(rt; catalogue.find(&pair(5)), Some(1));
     let copy = catalogue.copy(alloc)?;
     assert_eq!(rt; copy.len(), 2);
-    assert_eq!(rt; (copy.get(1).on(), copy.get(1).yields()), (false, 4294967295));
+    assert_eq!(rt;
+        (copy.get(1).on(), copy.get(1).yields()),
+        (false, 4294967295)
+    );
     catalogue.switch(1, true);
-    assert_eq!(rt; (catalogue.get(1).on(), catalogue.get(1).yields()), (true, 4294967295));
+    assert_eq!(rt;
+        (catalogue.get(1).on(), catalogue.get(1).yields()),
+        (true, 4294967295)
+    );
     Ok(())
 }
 

@@ -22,7 +22,8 @@ pub fn is_number(word: &[u8]) -> bool
 // The value of digits, where it is at most max.
 fn value(digits: &[u8], max: u64) -> Option<u64>
     requires { are_digits digits.now ≡ true }
-    ensures { result ≡ (if nat_le (value_of digits.now) max then Some (value_of digits.now) else None) }
+    ensures { result
+        ≡ (if nat_le (value_of digits.now) max then Some (value_of digits.now) else None) }
 {
     let mut value = 0u128;
     for digit in digits {

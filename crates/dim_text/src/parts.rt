@@ -67,7 +67,8 @@ impl<'a> Parts<'a> {
 
     /// The next part, or `None` where none is left.
     pub fn next_part(&mut self) -> Option<&'a [u8]>
-        ensures { MatchOption result ((self.old ≡ []) × (self.new ≡ [])) (λ part. self.old ≡ part.now ∷ self.new) }
+        ensures { MatchOption result ((self.old ≡ []) × (self.new ≡ []))
+            (λ part. self.old ≡ part.now ∷ self.new) }
     {
         let rest = self.rest?;
         match cut(rest, self.separator) {
@@ -85,7 +86,8 @@ impl<'a> Parts<'a> {
     /// The next part that has a separator behind it. `None` leaves the one part that is left, if there is one.
     #[tactic(auto, using(crate::proofs::Splitting::some_part))]
     pub fn next_ended(&mut self) -> Option<&'a [u8]>
-        ensures { MatchOption result ((length self.old ≤ 1) × (self.new ≡ self.old)) (λ part. (self.old ≡ part.now ∷ self.new) × (self.new ≢ [])) }
+        ensures { MatchOption result ((length self.old ≤ 1) × (self.new ≡ self.old))
+            (λ part. (self.old ≡ part.now ∷ self.new) × (self.new ≢ [])) }
     {
         let rest = self.rest?;
         match cut(rest, self.separator) {
