@@ -16,3 +16,4 @@ pub mod EdgeLaws
 pub mod Requests
 pub mod Stays
 pub mod Journal
+pub mod Yielded

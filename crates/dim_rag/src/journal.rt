@@ -1,12 +1,13 @@
 //! The entries of a history, kept in brief.
-ghost use Rattle.std.specs.Prelude.{◌≡◌, ◌+◌, ◌-◌, ◌<◌, ◌≤◌, ◌^◌, [], ◌∷◌, ◌++◌, length, slice_get, max, All, Some, IfOk, OnOk, OnErr};
+ghost use Rattle.std.specs.Prelude.{◌≡◌, ◌+◌, ◌-◌, ◌<◌, ◌≤◌, ◌^◌, [], ◌∷◌, ◌++◌, length, slice_get, map, max, All, Some, IfOk, OnOk, OnErr};
 ghost use Rattle.dim_rag.specs.Journal.{IsWithin, entries_of};
+ghost use Rattle.dim_rag.specs.Yielded.{yielded};
 
 pub mod brief;
 
 use crate::births::Births;
 use crate::entry::{Entry, MissWhy};
-use brief::{Brief, brief_of, entry_of};
+use brief::{Brief, brief_of, entry_of, yielded};
 use dim_base::{OutOfMemory, Tid};
 use dim_stack::Frame;
 use std::alloc::Global;
@@ -90,6 +91,14 @@ impl Journal {
         ensures { slice_get self.now.entries place ≡ Some result }
     {
         entry_of(&self.frames, &self.births, &self.briefs[place as usize])
+    }
+
+    /// The number of the signature that the entry at a place names, where it is a Yield. The place is below the length.
+    pub fn yielded(&self, place: u32) -> Option<u32>
+        requires { place < length self.now.entries }
+        ensures { slice_get (map yielded self.now.entries) place ≡ Some result }
+    {
+        yielded(&self.briefs[place as usize])
     }
 
     /// The entries in full, in a list of their own.

@@ -1,5 +1,5 @@
 //! Tables that replay the entries of a gate's history, and keep them.
-ghost use Rattle.std.specs.Prelude.{◌≡◌, ℕ, ◌+◌, ◌-◌, ◌<◌, ◌≤◌, ◌^◌, ◌↔◌, IsTrue, [], ◌∷◌, ◌++◌, length, slice_get, max, Some, None, IfOk, OnOk, OnErr, IfSome, IfNone, MatchResult, option_map};
+ghost use Rattle.std.specs.Prelude.{◌≡◌, ℕ, ◌+◌, ◌-◌, ◌<◌, ◌≤◌, ◌^◌, ◌↔◌, IsTrue, [], ◌∷◌, ◌++◌, length, slice_get, map, max, Some, None, IfOk, OnOk, OnErr, IfSome, IfNone, MatchResult, option_map};
 ghost use Rattle.dim_base.specs.declared.Tid.{Tid};
 ghost use Rattle.dim_rag.specs.declared.entry.Edge.{Edge};
 ghost use Rattle.dim_rag.specs.History.{past, mode, allow, hold, latest_wish};
@@ -12,6 +12,7 @@ ghost use Rattle.dim_rag.specs.Edges.{standing};
 ghost use Rattle.dim_rag.specs.Waits.{waits};
 ghost use Rattle.dim_rag.specs.Certificate.{held_at, cycle_fault};
 ghost use Rattle.dim_rag.specs.Stuck.{IsStuck, IsFirstFree, stale, choice};
+ghost use Rattle.dim_rag.specs.Yielded.{yielded};
 
 use crate::births::Births;
 use crate::entry::{Edge, Entry, Mode};
@@ -97,6 +98,16 @@ impl Tables {
         ensures { slice_get self.now.entries place ≡ Some result }
     {
         self.journal.entry(place)
+    }
+
+    /// The number of the signature that the entry at a place names, where it is a Yield. The place is below the length.
+    ///
+    /// It makes no entry, and takes no memory.
+    pub fn yielded(&self, place: u32) -> Option<u32>
+        requires { place < length self.now.entries }
+        ensures { slice_get (map yielded self.now.entries) place ≡ Some result }
+    {
+        self.journal.yielded(place)
     }
 
     /// The entries in full, oldest first, in a list of their own, which takes more than 400 bytes for each.

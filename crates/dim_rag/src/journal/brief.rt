@@ -1,6 +1,8 @@
 //! Entries in brief: what of them has a small size, and where the rest of them lies.
 ghost use Rattle.std.specs.Prelude.{◌≡◌, ℕ, List, ◌∷◌, [], ◌+◌, ◌<◌, ◌≤◌, ◌^◌, ◌++◌, length, vec_len, vec_capacity};
+ghost use Rattle.dim_stack.specs.declared.Frame.{Frame};
 ghost use Rattle.dim_rag.specs.declared.entry.MissWhy.TheVariants.{Avoid};
+ghost use Rattle.dim_rag.specs.Yielded.{yielded};
 ghost use Rattle.dim_rag.specs.Journal.{IsIn, IsWithin, frames_in, births_at, stack_of, births_of, births_of_miss, brief_of, brief_of_miss, entry_of};
 
 use crate::births::Births;
@@ -255,6 +257,16 @@ pub fn entry_of(frames: &[Frame], births: &[Births], brief: &Brief) -> Entry
         Brief::Learnt { births: cycle } => Entry::Learn {
             births: births_at(births, *cycle),
         },
+    }
+}
+
+/// The number of the signature that a brief entry names, where it stands for a Yield.
+pub fn yielded(brief: &Brief) -> Option<u32>
+    ensures { (fs : List Frame) (bs : List (List ℕ)) → yielded (entry_of fs bs brief.now) ≡ result }
+{
+    match brief {
+        Brief::Yielded { sig, .. } => Some(*sig),
+        _ => None,
     }
 }
 
