@@ -1,13 +1,15 @@
 //! The entries of a history, kept in brief.
-ghost use Rattle.std.specs.Prelude.{◌≡◌, ◌+◌, ◌-◌, ◌<◌, ◌≤◌, ◌^◌, [], ◌∷◌, ◌++◌, length, slice_get, map, max, All, Some, IfOk, OnOk, OnErr};
+ghost use Rattle.std.specs.Prelude.{◌≡◌, ◌+◌, ◌-◌, ◌<◌, ◌≤◌, ◌^◌, [], ◌∷◌, ◌++◌, ◌↔◌, length, slice_get, map, max, All, Some, IsTrue, IfOk, OnOk, OnErr};
 ghost use Rattle.dim_rag.specs.Journal.{IsWithin, entries_of};
 ghost use Rattle.dim_rag.specs.Yielded.{yielded};
 
 pub mod brief;
+mod comparing;
 
 use crate::births::Births;
 use crate::entry::{Entry, MissWhy};
 use brief::{Brief, brief_of, entry_of, yielded};
+use comparing::stands_for;
 use dim_base::{OutOfMemory, Tid};
 use dim_stack::Frame;
 use std::alloc::Global;
@@ -99,6 +101,21 @@ impl Journal {
         ensures { slice_get (map yielded self.now.entries) place ≡ Some result }
     {
         yielded(&self.briefs[place as usize])
+    }
+
+    /// Whether this entry is at a place.
+    pub fn is_entry(&self, place: u32, e: &Entry) -> bool
+        ensures { IsTrue result ↔ (slice_get self.now.entries place ≡ Some e.now) }
+    {
+        place < self.len() && self.is_at(place, e)
+    }
+
+    /// Whether this entry is at a place below the length.
+    fn is_at(&self, place: u32, e: &Entry) -> bool
+        requires { place < length self.now.entries }
+        ensures { IsTrue result ↔ (slice_get self.now.entries place ≡ Some e.now) }
+    {
+        stands_for(&self.frames, &self.births, &self.briefs[place as usize], e)
     }
 
     /// The entries in full, in a list of their own.

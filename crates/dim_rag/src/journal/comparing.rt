@@ -1,0 +1,67 @@
+//! Entries in brief, compared with entries.
+ghost use Rattle.std.specs.Prelude.{◌≡◌, ◌↔◌, List, length, IsTrue};
+ghost use Rattle.dim_stack.specs.declared.Frame.{Frame};
+ghost use Rattle.dim_rag.specs.Journal.{IsIn, IsWithin, frames_in, entry_of};
+
+use super::brief::{Brief, Span, entry_of};
+use crate::births::Births;
+use crate::entry::{Entry, same_entry};
+use dim_base::{Lid, Tid};
+use dim_stack::{Frame, Stack};
+
+/// Whether a brief entry stands for an entry.
+///
+/// Of the kinds that are entered most it compares the parts where they lie.
+pub fn stands_for(frames: &[Frame], births: &[Births], brief: &Brief, e: &Entry) -> bool
+    requires { IsWithin (length frames.now) (length births.now) brief.now }
+    ensures { IsTrue result ↔ (entry_of frames.now births.now brief.now ≡ e.now) }
+{
+    match (brief, e) {
+        (Brief::Obtained { t, l }, Entry::Got { t: u, l: m }) => is_pair(t, l, u, m),
+        (Brief::Freed { t, l }, Entry::Free { t: u, l: m }) => is_pair(t, l, u, m),
+        (
+            Brief::Went { t, l, stack },
+            Entry::Go {
+                t: u,
+                l: m,
+                stack: s,
+            },
+        ) => is_pair(t, l, u, m) && are_in(frames, stack, s),
+        (
+            Brief::Took { t, l, stack },
+            Entry::Took {
+                t: u,
+                l: m,
+                stack: s,
+            },
+        ) => is_pair(t, l, u, m) && are_in(frames, stack, s),
+        _ => stands_for_in_full(frames, births, brief, e),
+    }
+}
+
+/// The same, by the entry that it stands for.
+///
+/// It isn't inlined, since that is large and a function fills its locals each time that it is called.
+#[inline(never)]
+fn stands_for_in_full(frames: &[Frame], births: &[Births], brief: &Brief, e: &Entry) -> bool
+    requires { IsWithin (length frames.now) (length births.now) brief.now }
+    ensures { IsTrue result ↔ (entry_of frames.now births.now brief.now ≡ e.now) }
+{
+    same_entry(&entry_of(frames, births, brief), e)
+}
+
+/// Whether a thread and a lock are these two.
+fn is_pair(t: &Tid, l: &Lid, u: &Tid, m: &Lid) -> bool
+    ensures { IsTrue result ↔ ((t.now ≡ u.now) × (l.now ≡ m.now)) }
+{
+    t.0 == u.0 && l.0 == m.0
+}
+
+/// Whether the frames in a span are those of a stack.
+fn are_in(frames: &[Frame], span: &Span, stack: &Stack) -> bool
+    requires { IsIn (length frames.now) span.now }
+    ensures { IsTrue result ↔ (frames_in frames.now span.now ≡ stack.now) }
+{
+    let end = span.start + span.len as usize;
+    &frames[span.start..end] == stack.as_slice()
+}
