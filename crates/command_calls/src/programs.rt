@@ -59,26 +59,45 @@ pub const ONE_AGAINST_TWO: &[u8] =
     b"dim program 1\nlock a\nlock b\nlock c\nfunc w0 0\nLOCK c\nLOCK a\nLOCK b\nUNLOCK b\nUNLOCK a\nUNLOCK c\nRET\nend\nfunc w1 0\nLOCK a\nLOCK c\nUNLOCK c\nUNLOCK a\nRET\nend\nthread w0 0\nthread w1 0\nthread w0 0\nend program\n";
 
 /// The history that knows no signature.
-pub const EMPTY: &[u8] = b"dim history 1\nend 0\n";
+pub const EMPTY: &[u8] = b"dim history 2\nend 0\n";
 
 /// The signature of the deadlock of the two orders.
-pub const LEARNT: &[u8] = b"dim history 1\nsignature 4 2\nleft:0\nright:0\nend 1\n";
+pub const LEARNT: &[u8] = b"dim history 2\nsignature 4 2 on 0\nleft:0\nright:0\nend 1\n";
+
+/// The same in version 1.
+pub const LEARNT_BEFORE: &[u8] = b"dim history 1\nsignature 4 2\nleft:0\nright:0\nend 1\n";
+
+/// The same with one yield.
+pub const AVOIDED: &[u8] = b"dim history 2\nsignature 4 2 on 1\nleft:0\nright:0\nend 1\n";
+
+/// The same switched off.
+pub const SWITCHED_OFF: &[u8] = b"dim history 2\nsignature 4 2 off 0\nleft:0\nright:0\nend 1\n";
 
 /// A signature for which one of two threads has taken a lock before.
-pub const INTERLEAVED: &[u8] = b"dim history 1\nsignature 4 2\nleft:0\nright:1\nend 1\n";
+pub const INTERLEAVED: &[u8] = b"dim history 2\nsignature 4 2 on 0\nleft:0\nright:1\nend 1\n";
+
+/// The same with one yield.
+pub const INTERLEAVED_AVOIDED: &[u8] =
+    b"dim history 2\nsignature 4 2 on 1\nleft:0\nright:1\nend 1\n";
 
 /// The signature of the deadlock of the philosophers.
 pub const FIVE_FORKS: &[u8] =
-    b"dim history 1\nsignature 4 5\nphil:2\nphil:2\nphil:2\nphil:2\nphil:2\nend 1\n";
+    b"dim history 2\nsignature 4 5 on 0\nphil:2\nphil:2\nphil:2\nphil:2\nphil:2\nend 1\n";
+
+/// The same with one yield.
+pub const FIVE_FORKS_AVOIDED: &[u8] =
+    b"dim history 2\nsignature 4 5 on 1\nphil:2\nphil:2\nphil:2\nphil:2\nphil:2\nend 1\n";
 
 /// Stacks that agree with those of `NESTED` in one frame, and in no more.
-pub const MATCHED_BY_ONE: &[u8] = b"dim history 1\nsignature 1 2\ntake:0 x:0\ntake:0 y:0\nend 1\n";
+pub const MATCHED_BY_ONE: &[u8] =
+    b"dim history 2\nsignature 1 2 on 0\ntake:0 x:0\ntake:0 y:0\nend 1\n";
 
 /// The same stacks, which no stack of `NESTED` agrees with at depth 4.
-pub const MATCHED_BY_FOUR: &[u8] = b"dim history 1\nsignature 4 2\ntake:0 x:0\ntake:0 y:0\nend 1\n";
+pub const MATCHED_BY_FOUR: &[u8] =
+    b"dim history 2\nsignature 4 2 on 0\ntake:0 x:0\ntake:0 y:0\nend 1\n";
 
 /// A signature that no run of `THREE_CROSSED` comes to.
-pub const ELSEWHERE: &[u8] = b"dim history 1\nsignature 1 2\nw1:0 f1:1\nw1:1\nend 1\n";
+pub const ELSEWHERE: &[u8] = b"dim history 2\nsignature 1 2 on 0\nw1:0 f1:1\nw1:1\nend 1\n";
 
 /// The signature of the deadlock of `ONE_AGAINST_TWO`, by its first frames.
-pub const FIRST_FRAMES: &[u8] = b"dim history 1\nsignature 1 2\nw0:0\nw1:0\nend 1\n";
+pub const FIRST_FRAMES: &[u8] = b"dim history 2\nsignature 1 2 on 0\nw0:0\nw1:0\nend 1\n";

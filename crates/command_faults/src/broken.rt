@@ -1,5 +1,5 @@
 //! Texts that are cut off at each byte, and a history of which each byte is altered.
-use command_calls::programs::{LEARNT, SMALLEST, SMALLEST_TRACE};
+use command_calls::programs::{LEARNT, LEARNT_BEFORE, SMALLEST, SMALLEST_TRACE};
 use command_calls::{Around, over};
 use dim_base::{MemFiles, OutOfMemory, Word};
 use std::alloc::Global;
@@ -10,6 +10,14 @@ use std::thread::Threads;
 
 // What is put of the first n bytes of a text stands in the first row whose number is above n.
 const HISTORY_CUTS: [(usize, &str); 5] = [
+    (14, "history line 1 kind 1\n"),
+    (33, "history line 2 kind 2\n"),
+    (40, "history line 3 kind 2\n"),
+    (48, "history line 4 kind 2\n"),
+    (54, "history line 5 kind 2\n"),
+];
+
+const OLD_HISTORY_CUTS: [(usize, &str); 5] = [
     (14, "history line 1 kind 1\n"),
     (28, "history line 2 kind 2\n"),
     (35, "history line 3 kind 2\n"),
@@ -82,6 +90,14 @@ fn a_text_may_be_cut_off_anywhere(rt: HostRuntime) -> Result<(), Fail> {
     let alloc = rt.alloc();
     let history = ("g", LEARNT);
     cut_off(&rt, alloc, &["show", "g"], history, 6, &HISTORY_CUTS)?;
+    cut_off(
+        &rt,
+        alloc,
+        &["switch", "g", "0", "off", "h"],
+        ("g", LEARNT_BEFORE),
+        6,
+        &OLD_HISTORY_CUTS,
+    )?;
     cut_off(
         &rt,
         alloc,

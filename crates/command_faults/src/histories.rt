@@ -1,7 +1,7 @@
 //! Histories that are shown, and those that are refused.
 
-use command_calls::large::many_signatures;
-use command_calls::programs::{LEARNT, SMALLEST};
+use command_calls::large::{many_signatures, many_signatures_before};
+use command_calls::programs::{LEARNT_BEFORE, SMALLEST, SWITCHED_OFF};
 use command_calls::words::SHORT_SLICES;
 use command_calls::{Around, loaded};
 use dim_base::OutOfMemory;
@@ -22,13 +22,18 @@ fn shown<R: Threads + Wait + Sync>(
 #[test]
 fn a_history_is_shown(rt: HostRuntime) -> Result<(), Fail> {
     let alloc = rt.alloc();
-    let after = loaded(&rt, alloc, &["show", "g"], SMALLEST, LEARNT)?;
+    let after = shown(&rt, alloc, LEARNT_BEFORE)?;
     assert_eq!(rt; after.status, 0);
     assert_eq!(rt;
         after.out.taken(),
-        b"signature 0 depth 4\nleft:0\nright:0\nsignatures 1\n".as_slice()
+        b"signature 0 depth 4 on yields 0\nleft:0\nright:0\nsignatures 1\n".as_slice()
     );
-    let none = loaded(&rt, alloc, &["show", "-"], SMALLEST, LEARNT)?;
+    let off = shown(&rt, alloc, SWITCHED_OFF)?;
+    assert_eq!(rt;
+        off.out.taken(),
+        b"signature 0 depth 4 off yields 0\nleft:0\nright:0\nsignatures 1\n".as_slice()
+    );
+    let none = loaded(&rt, alloc, &["show", "-"], SMALLEST, LEARNT_BEFORE)?;
     assert_eq!(rt; none.out.taken(), b"signatures 0\n".as_slice());
     Ok(())
 }
@@ -71,10 +76,14 @@ fn a_history_may_be_too_long(rt: HostRuntime) -> Result<(), Fail> {
 #[test]
 fn a_history_may_be_too_full(rt: HostRuntime) -> Result<(), Fail> {
     let alloc = rt.alloc();
-    let text = many_signatures(alloc, 4081)?;
+    let text = many_signatures_before(alloc, 4081)?;
     let after = loaded(&rt, alloc, &SHORT_SLICES, SMALLEST, text.as_bytes())?;
     assert_eq!(rt; after.status, 10);
     assert_eq!(rt; after.out.taken(), b"history full 4081 112071\n".as_slice());
+    let text = many_signatures(alloc, 4081)?;
+    let after = loaded(&rt, alloc, &SHORT_SLICES, SMALLEST, text.as_bytes())?;
+    assert_eq!(rt; after.status, 10);
+    assert_eq!(rt; after.out.taken(), b"history full 4081 132476\n".as_slice());
     Ok(())
 }
 

@@ -1,4 +1,4 @@
-//! Tests: what is refused, with which status and line, and what `check` and `show` say.
+//! Tests: what is refused, with which status and line, and what `check`, `show` and `switch` say and leave.
 #![tactic(auto)]
 
 #[cfg(test)]
@@ -15,3 +15,5 @@ mod outside;
 mod programs;
 #[cfg(test)]
 mod statuses;
+#[cfg(test)]
+mod switches;

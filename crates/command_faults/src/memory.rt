@@ -48,6 +48,9 @@ fn want_of_memory_has_a_line(rt: HostRuntime) -> Result<(), Fail> {
     let (status, out) = over_wanting(alloc, &["generate", "7", "p"], &[])?;
     assert_eq!(rt; status, 9);
     assert_eq!(rt; out.taken(), b"memory\n".as_slice());
+    let (status, out) = over_wanting(alloc, &["switch", "g", "0", "on", "h"], &[])?;
+    assert_eq!(rt; status, 9);
+    assert_eq!(rt; out.taken(), b"memory\n".as_slice());
     let (status, _out) = over_wanting(alloc, &["show", "g"], &[1])?;
     assert_eq!(rt; status, 9);
     Ok(())

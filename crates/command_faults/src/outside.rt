@@ -31,7 +31,7 @@ fn failing<R: Threads + Wait + Sync>(
 
 // Words, the call on files that fails, the line that is put, and how much of the new history h and of the trace s is there then. A store that
 // fails leaves its first half.
-const FAULTS: [(&str, u32, &str, usize, usize); 13] = [
+const FAULTS: [(&str, u32, &str, usize, usize); 14] = [
     ("run p g h s", 1, "file fault program\n", 0, 0),
     ("run p g h s", 2, "file fault history\n", 0, 0),
     ("run p g h s", 3, "file fault newhistory\n", 10, 0),
@@ -44,6 +44,7 @@ const FAULTS: [(&str, u32, &str, usize, usize); 13] = [
     ("check p g t", 2, "file fault history\n", 0, 0),
     ("check p g t", 3, "file fault trace\n", 0, 0),
     ("show g", 1, "file fault history\n", 0, 0),
+    ("switch g 0 on h", 1, "file fault history\n", 0, 0),
     ("generate 7 n", 1, "file fault program\n", 0, 0),
 ];
 
@@ -67,7 +68,7 @@ fn each_call_on_files_may_fail(rt: HostRuntime) -> Result<(), Fail> {
 }
 
 // Words of which one names no file, and the line that is put.
-const ABSENCES: [(&str, &str); 8] = [
+const ABSENCES: [(&str, &str); 9] = [
     ("run q g h s", "file absent program\n"),
     ("run p q h s", "file absent history\n"),
     ("live q g h s", "file absent program\n"),
@@ -76,6 +77,7 @@ const ABSENCES: [(&str, &str); 8] = [
     ("check p q t", "file absent history\n"),
     ("check p g q", "file absent trace\n"),
     ("show q", "file absent history\n"),
+    ("switch q 0 on h", "file absent history\n"),
 ];
 
 #[test]
@@ -91,7 +93,7 @@ fn each_file_may_be_absent(rt: HostRuntime) -> Result<(), Fail> {
 }
 
 // Words whose put fails, and their status: a report that can't be put is told by it, and a refusal's line isn't.
-const SILENCES: [(&str, u8); 8] = [
+const SILENCES: [(&str, u8); 10] = [
     ("run p g h s", 8),
     ("live p g h s", 8),
     ("check p g t", 8),
@@ -99,6 +101,8 @@ const SILENCES: [(&str, u8); 8] = [
     ("generate 7 n", 8),
     ("check p g q", 16),
     ("show p", 6),
+    ("switch g 0 on h", 14),
+    ("switch p 0 on h", 6),
     ("halt", 2),
 ];
 

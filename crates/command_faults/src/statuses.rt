@@ -29,7 +29,7 @@ fn status<R: Threads + Wait + Sync>(
 }
 
 // Words that are no command.
-const NO_COMMANDS: [&str; 12] = [
+const NO_COMMANDS: [&str; 15] = [
     "",
     "run p",
     "run p - h h",
@@ -42,6 +42,9 @@ const NO_COMMANDS: [&str; 12] = [
     "run p - h t --workers 2",
     "live p - h t --seed 1",
     "--help",
+    "switch g 0 yes h",
+    "switch g 0 off g",
+    "switch g 4294967296 off h",
 ];
 
 #[test]

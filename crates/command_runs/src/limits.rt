@@ -1,5 +1,5 @@
 //! Runs at the limits.
-use command_calls::large::{crowd, crowd_history, many_signatures};
+use command_calls::large::{crowd, crowd_history, many_signatures_before};
 use command_calls::programs::{CROSSED, EMPTY, LEARNT, NEVER_FREED, PLAIN};
 use command_calls::words::SHORT_SLICES;
 use command_calls::{called, loaded, over};
@@ -29,7 +29,7 @@ fn crowd_trace(alloc: Global) -> Result<String, AllocError> {
 fn the_largest_signature_is_avoided(rt: HostRuntime) -> Result<(), Fail> {
     let alloc = rt.alloc();
     let program = crowd(alloc)?;
-    let history = crowd_history(alloc)?;
+    let history = crowd_history(alloc, 0)?;
     let after = loaded(
         &rt,
         alloc,
@@ -42,7 +42,10 @@ fn the_largest_signature_is_avoided(rt: HostRuntime) -> Result<(), Fail> {
         after.held(alloc, "t")?,
         Some(crowd_trace(alloc)?.as_bytes())
     );
-    assert_eq!(rt; after.held(alloc, "h")?, Some(history.as_bytes()));
+    assert_eq!(rt;
+        after.held(alloc, "h")?,
+        Some(crowd_history(alloc, 1)?.as_bytes())
+    );
     Ok(())
 }
 
@@ -112,7 +115,7 @@ fn fuel_ends_where_a_thread_yields(rt: HostRuntime) -> Result<(), Fail> {
 #[test]
 fn the_largest_history_learns(rt: HostRuntime) -> Result<(), Fail> {
     let alloc = rt.alloc();
-    let text = many_signatures(alloc, 4080)?;
+    let text = many_signatures_before(alloc, 4080)?;
     let after = loaded(&rt, alloc, &SHORT_SLICES, CROSSED, text.as_bytes())?;
     assert_eq!(rt; after.status, 3);
     assert_eq!(rt;
@@ -123,7 +126,7 @@ fn the_largest_history_learns(rt: HostRuntime) -> Result<(), Fail> {
     );
     let again = over(&rt, alloc, &["run", "p", "h", "n", "s"], after.files)?;
     assert_eq!(rt; again.status, 10);
-    assert_eq!(rt; again.out.taken(), b"history full 4081 112072\n".as_slice());
+    assert_eq!(rt; again.out.taken(), b"history full 4081 132477\n".as_slice());
     Ok(())
 }
 
@@ -151,7 +154,7 @@ fn what_is_learnt_has_the_depth_of_the_settings(rt: HostRuntime) -> Result<(), F
     assert_eq!(rt; after.status, 3);
     assert_eq!(rt;
         after.held(alloc, "h")?,
-        Some(b"dim history 1\nsignature 32 2\nleft:0\nright:0\nend 1\n".as_slice())
+        Some(b"dim history 2\nsignature 32 2 on 0\nleft:0\nright:0\nend 1\n".as_slice())
     );
     assert!(rt;
         after.begins(

@@ -1,6 +1,7 @@
 //! What the machine does.
 use command_calls::programs::{
-    EMPTY, FIVE_FORKS, MATCHED_BY_FOUR, MATCHED_BY_ONE, NESTED, PHILOSOPHERS, PLAIN, TRAPPED, TRIES,
+    EMPTY, FIVE_FORKS, FIVE_FORKS_AVOIDED, MATCHED_BY_FOUR, MATCHED_BY_ONE, NESTED, PHILOSOPHERS,
+    PLAIN, TRAPPED, TRIES,
 };
 use command_calls::words::{RUN, SHORT_SLICES_ALONE};
 use command_calls::{Around, called, loaded};
@@ -33,7 +34,7 @@ fn one_philosopher_yields_once_the_deadlock_is_known(rt: HostRuntime) -> Result<
     let alloc = rt.alloc();
     let after = loaded(&rt, alloc, &SLICES_OF_4, PHILOSOPHERS, FIVE_FORKS)?;
     assert_eq!(rt; after.status, 0);
-    assert_eq!(rt; after.held(alloc, "h")?, Some(FIVE_FORKS));
+    assert_eq!(rt; after.held(alloc, "h")?, Some(FIVE_FORKS_AVOIDED));
     let front =
         b"dim trace 1\nsettings 8192 4\ngo 0 f0 phil:2\ngot 0 f0\ngo 1 f1 phil:2\ngot 1 f1\ngo 2 f2 phil:2\ngot 2 f2\ngo 3 f3 phil:2\ngot 3 f3\nyield 4 f4 0 5 0 2 4 6 8 phil:2\n";
     assert!(rt; after.begins(alloc, "t", front)?);

@@ -1,7 +1,8 @@
 //! What runs do.
 
 use command_calls::programs::{
-    CHAINED, CROSSED, EMPTY, ENDS_HOLDING, INTERLEAVED, LEADS_ON, LEARNT, NEVER_FREED, SMALLEST,
+    AVOIDED, CHAINED, CROSSED, EMPTY, ENDS_HOLDING, INTERLEAVED, INTERLEAVED_AVOIDED, LEADS_ON,
+    LEARNT, LEARNT_BEFORE, NEVER_FREED, SMALLEST, SWITCHED_OFF,
 };
 use command_calls::words::{RUN, SHORT_SLICES, SHORT_SLICES_ALONE};
 use command_calls::{called, loaded};
@@ -77,9 +78,9 @@ fn a_first_deadlock_is_learnt(rt: HostRuntime) -> Result<(), Fail> {
 #[test]
 fn a_deadlock_that_is_known_is_avoided(rt: HostRuntime) -> Result<(), Fail> {
     let alloc = rt.alloc();
-    let after = loaded(&rt, alloc, &SHORT_SLICES, CROSSED, LEARNT)?;
+    let after = loaded(&rt, alloc, &SHORT_SLICES, CROSSED, LEARNT_BEFORE)?;
     assert_eq!(rt; after.status, 0);
-    assert_eq!(rt; after.held(alloc, "h")?, Some(LEARNT));
+    assert_eq!(rt; after.held(alloc, "h")?, Some(AVOIDED));
     assert_eq!(rt;
         after.held(alloc, "t")?,
         Some(
@@ -94,11 +95,41 @@ fn a_deadlock_that_is_known_is_avoided(rt: HostRuntime) -> Result<(), Fail> {
 }
 
 #[test]
+fn a_deadlock_that_is_switched_off_comes_again(rt: HostRuntime) -> Result<(), Fail> {
+    let alloc = rt.alloc();
+    let after = loaded(&rt, alloc, &SHORT_SLICES, CROSSED, SWITCHED_OFF)?;
+    assert_eq!(rt; after.status, 3);
+    assert_eq!(rt; after.held(alloc, "h")?, Some(SWITCHED_OFF));
+    assert_eq!(rt;
+        after.held(alloc, "t")?,
+        Some(
+            b"dim trace 1\nsettings 8192 4\ngo 0 a left:0\ngot 0 a\ngo 1 b right:0\ngot 1 b\ngo 0 b left:1\ngo 1 a right:1\nend 6\n".as_slice()
+        )
+    );
+    Ok(())
+}
+
+#[test]
+fn yields_are_counted_up_to_the_highest_number(rt: HostRuntime) -> Result<(), Fail> {
+    let alloc = rt.alloc();
+    let most = b"dim history 2\nsignature 4 2 on 4294967295\nleft:0\nright:0\nend 1\n";
+    for history in [
+        most.as_slice(),
+        b"dim history 2\nsignature 4 2 on 4294967294\nleft:0\nright:0\nend 1\n",
+    ] {
+        let after = loaded(&rt, alloc, &SHORT_SLICES, CROSSED, history)?;
+        assert_eq!(rt; after.status, 0);
+        assert_eq!(rt; after.held(alloc, "h")?, Some(most.as_slice()));
+    }
+    Ok(())
+}
+
+#[test]
 fn a_stuck_thread_is_broken_out(rt: HostRuntime) -> Result<(), Fail> {
     let alloc = rt.alloc();
     let after = loaded(&rt, alloc, &SHORT_SLICES, CHAINED, INTERLEAVED)?;
     assert_eq!(rt; after.status, 0);
-    assert_eq!(rt; after.held(alloc, "h")?, Some(INTERLEAVED));
+    assert_eq!(rt; after.held(alloc, "h")?, Some(INTERLEAVED_AVOIDED));
     assert_eq!(rt;
         after.held(alloc, "t")?,
         Some(
@@ -113,7 +144,7 @@ fn a_break_may_lead_into_a_known_deadlock(rt: HostRuntime) -> Result<(), Fail> {
     let alloc = rt.alloc();
     let after = loaded(&rt, alloc, &SHORT_SLICES, LEADS_ON, INTERLEAVED)?;
     assert_eq!(rt; after.status, 3);
-    assert_eq!(rt; after.held(alloc, "h")?, Some(INTERLEAVED));
+    assert_eq!(rt; after.held(alloc, "h")?, Some(INTERLEAVED_AVOIDED));
     assert_eq!(rt;
         after.held(alloc, "t")?,
         Some(
@@ -145,7 +176,7 @@ fn a_signature_that_names_no_function_is_kept(rt: HostRuntime) -> Result<(), Fai
         alloc,
         &SHORT_SLICES,
         CROSSED,
-        b"dim history 1\nsignature 7 2\nlost:3\nzoo:0\nend 1\n",
+        b"dim history 2\nsignature 7 2 on 0\nlost:3\nzoo:0\nend 1\n",
     )?;
     assert_eq!(rt; after.status, 3);
     assert_eq!(rt;
@@ -157,7 +188,7 @@ fn a_signature_that_names_no_function_is_kept(rt: HostRuntime) -> Result<(), Fai
     assert_eq!(rt;
         after.held(alloc, "h")?,
         Some(
-            b"dim history 1\nsignature 7 2\nlost:3\nzoo:0\nsignature 4 2\nleft:0\nright:0\nend 2\n".as_slice()
+            b"dim history 2\nsignature 7 2 on 0\nlost:3\nzoo:0\nsignature 4 2 on 0\nleft:0\nright:0\nend 2\n".as_slice()
         )
     );
     Ok(())

@@ -57,7 +57,7 @@ fn a_seed_begins_at_the_last_thread(rt: HostRuntime) -> Result<(), Fail> {
     assert_eq!(rt;
         after.held(alloc, "h")?,
         Some(
-            b"dim history 1\nsignature 1 2\nw1:0 f1:1\nw1:1\nsignature 4 2\nw0:0\nw1:0\nend 2\n".as_slice()
+            b"dim history 2\nsignature 1 2 on 0\nw1:0 f1:1\nw1:1\nsignature 4 2 on 0\nw0:0\nw1:0\nend 2\n".as_slice()
         )
     );
     assert_eq!(rt;
@@ -85,6 +85,10 @@ fn a_seed_is_drawn_from_to_the_end(rt: HostRuntime) -> Result<(), Fail> {
     ];
     let after = loaded(&rt, alloc, &words, ONE_AGAINST_TWO, FIRST_FRAMES)?;
     assert_eq!(rt; after.status, 0);
+    assert_eq!(rt;
+        after.held(alloc, "h")?,
+        Some(b"dim history 2\nsignature 1 2 on 2\nw0:0\nw1:0\nend 1\n".as_slice())
+    );
     assert_eq!(rt;
         after.held(alloc, "t")?,
         Some(

@@ -9,7 +9,7 @@ use Rattle.dim_cli.specs.declared.report.Ending.TheVariants.{Done, Deadlocked, S
 use Rattle.dim_cli.specs.declared.report.Report.{Report}
 use Rattle.dim_cli.specs.declared.stop.Place.{Place}
 use Rattle.dim_cli.specs.declared.stop.Refusal.{Refusal}
-use Rattle.dim_cli.specs.declared.stop.Refusal.TheVariants.{Words, Absent, Long, BadProgram, BadHistory, Full, BadTrace, No}
+use Rattle.dim_cli.specs.declared.stop.Refusal.TheVariants.{Words, Absent, Long, BadProgram, BadHistory, Full, BadTrace, No, NoSignature}
 use Rattle.dim_cli.specs.declared.stop.Stop.{Stop}
 use Rattle.dim_cli.specs.declared.stop.Stop.TheVariants as stops
 use Rattle.dim_words.specs.Words.{RunWords, CheckWords, Asked, Run, Check}
@@ -23,7 +23,7 @@ use Rattle.dim_cli.specs.Top.{FilesAt, Answers, Concludes, ExactlyWhere, EndsRef
 use Rattle.dim_cli.proofs.CompleteLemmas.{comes, played_status}
 use Rattle.dim_cli.proofs.HeadlineLemmas.{headline}
 use Rattle.dim_cli.proofs.JudgedLemmas.{says_yes, says_no}
-use Rattle.dim_cli.proofs.RowLemmas.{low, absent_row, long_row, bad_row, unread_row, full_row, refuted_row, untraced_row}
+use Rattle.dim_cli.proofs.RowLemmas.{low, absent_row, long_row, bad_row, unread_row, full_row, refuted_row, untraced_row, unnumbered_row}
 use Rattle.dim_cli.proofs.TopLemmas.{refused, cut_short, wanting, course-Some}
 
 no_two : (ending : Ending) → status_of ending ≢ 2
@@ -40,6 +40,7 @@ no_seven (BadHistory fault) = λ e. omega (arith, e)
 no_seven (Full signatures bytes) = λ e. omega (arith, e)
 no_seven (BadTrace fault) = λ e. omega (arith, e)
 no_seven (No place rule) = λ e. omega (arith, e)
+no_seven (NoSignature index) = λ e. omega (arith, e)
 
 no_eight : (r : Refusal) → refusal_status r ≢ 8
 no_eight Words = λ e. omega (arith, e)
@@ -50,6 +51,7 @@ no_eight (BadHistory fault) = λ e. omega (arith, e)
 no_eight (Full signatures bytes) = λ e. omega (arith, e)
 no_eight (BadTrace fault) = λ e. omega (arith, e)
 no_eight (No place rule) = λ e. omega (arith, e)
+no_eight (NoSignature index) = λ e. omega (arith, e)
 
 -- the status of an outcome, or that of a report that could not be put, is no other's
 pub record IsOutcomes (status : ℕ) : Type 0 where
@@ -77,6 +79,7 @@ no_refusal status (BadHistory fault) o = o.six
 no_refusal status (Full signatures bytes) o = λ e. let s = o.small in omega (arith, s, e)
 no_refusal status (BadTrace fault) o = λ e. let s = o.small in omega (arith, s, e)
 no_refusal status (No place rule) o = λ e. let s = o.small in omega (arith, s, e)
+no_refusal status (NoSignature index) o = λ e. let s = o.small in omega (arith, s, e)
 
 -- an outcome was reported, or its report could not be put
 pub reported : (r : Result Report Stop) (status : ℕ) (was is : SinkAt) → Concludes r status was is → IsOutcomes status → (report : Report) × (r ≡ Ok report)
@@ -120,6 +123,7 @@ no_words (Some a) (Err (stops.Refused (BadHistory fault))) status was is w k e =
 no_words (Some a) (Err (stops.Refused (Full signatures bytes))) status was is w k e = let s = (k (λ f. omega (arith, e, f))).0 in absurd (omega (arith, e, s))
 no_words (Some a) (Err (stops.Refused (BadTrace fault))) status was is w k e = let s = (k (λ f. omega (arith, e, f))).0 in absurd (omega (arith, e, s))
 no_words (Some a) (Err (stops.Refused (No place rule))) status was is w k e = let s = (k (λ f. omega (arith, e, f))).0 in absurd (omega (arith, e, s))
+no_words (Some a) (Err (stops.Refused (NoSignature index))) status was is w k e = let s = (k (λ f. omega (arith, e, f))).0 in absurd (omega (arith, e, s))
 no_words (Some a) (Err (stops.Fault place)) status was is w k e = let s = (k (λ f. omega (arith, e, f))).0 in absurd (omega (arith, e, s))
 no_words (Some a) (Err stops.OutOfMemory) status was is w k e = absurd (omega (arith, e, k))
 
@@ -180,6 +184,7 @@ module _ (asked : Option Asked) (course : Named → Course Report) (r : Result R
     long = λ before told. long_row (course before) before status new.told was is (λ s t n. all_done s t n before told) (λ t. not_put t before told);
     refuted = refuted_so;
     untraced = λ before told. untraced_row (course before) before status new.told was is (λ s t n. all_done s t n before told) (λ t. not_put t before told);
+    unnumbered = λ before told. unnumbered_row (course before) before status new.told was is (λ s t n. all_done s t n before told) (λ t. not_put t before told);
     says_yes = λ w is_check zero before told. says_yes law w (course before) before status new.told was is (check w is_check before) zero (λ s t n. all_done s t n before told);
     says_no = λ w is_check eleven before told.
         let no = (refuted_so before told).0 eleven in

@@ -257,6 +257,7 @@ reported (Err r) status old new h zero = absurd (no_zero r (sym h.0 ∙ zero))
     no_zero (refusals.Full signatures bytes) e = omega (arith, e)
     no_zero (refusals.BadTrace fault) e = omega (arith, e)
     no_zero (refusals.No place rule) e = omega (arith, e)
+    no_zero (refusals.NoSignature index) e = omega (arith, e)
 
 pub says_yes : FoundLaw → (w : CheckWords) (c : Course Report) (before : Named) (status : ℕ) (after : Option Named) (old new : SinkAt) → c ≡ check_course before w → status ≡ 0
     → (status ≢ 7 → status ≢ 8 → status ≢ 9 → IsDone c before status after old new) → Judged w before Yes

@@ -12,7 +12,7 @@ use Rattle.clap.specs.Faults.{check_fault, default_fault, defaults_fault, given_
 use Rattle.clap.specs.declared.error.kind.ErrorKind.TheVariants.{MissingRequiredArgument}
 use Rattle.clap.proofs.SimpleLemmas.{is_nil}
 use Rattle.dim_words.specs.declared.kind.Kind.{Kind}
-use Rattle.dim_words.specs.declared.kind.Kind.TheVariants.{Run, Live, Check, Show, Generate}
+use Rattle.dim_words.specs.declared.kind.Kind.TheVariants.{Run, Live, Check, Show, Generate, Switch}
 use Rattle.dim_words.specs.declared.kind.Setting.{Setting}
 use Rattle.dim_words.specs.declared.kind.Setting.TheVariants.{Fuel, Quantum, Depth, Seed, Workers}
 use Rattle.dim_words.specs.Words.{kind_word, names_wanted}
@@ -145,6 +145,7 @@ miss Live = miss_four
 miss Check = miss_three
 miss Show = miss_one
 miss Generate = miss_two
+miss Switch = miss_four
 
 missing_is : (kind : Kind) (is : List Item) → missing kind (rows_of 0 is) ≡ miss kind (names_of is)
 missing_is Run is =
@@ -166,6 +167,11 @@ missing_is Show is =
 missing_is Generate is =
     ap (λ g. (not g || (not (is_given (name_id 1) (rows_of 0 is)) || false))) (name_given is 0 (omega arith))
     ∙ ap (λ g. (not (is_some (slice_get (names_of is) 0)) || (not g || false))) (name_given is 1 (omega arith))
+missing_is Switch is =
+    ap (λ g. (not g || (not (is_given (name_id 1) (rows_of 0 is)) || (not (is_given (name_id 2) (rows_of 0 is)) || (not (is_given (name_id 3) (rows_of 0 is)) || false))))) (name_given is 0 (omega arith))
+    ∙ ap (λ g. (not (is_some (slice_get (names_of is) 0)) || (not g || (not (is_given (name_id 2) (rows_of 0 is)) || (not (is_given (name_id 3) (rows_of 0 is)) || false))))) (name_given is 1 (omega arith))
+    ∙ ap (λ g. (not (is_some (slice_get (names_of is) 0)) || (not (is_some (slice_get (names_of is) 1)) || (not g || (not (is_given (name_id 3) (rows_of 0 is)) || false))))) (name_given is 2 (omega arith))
+    ∙ ap (λ g. (not (is_some (slice_get (names_of is) 0)) || (not (is_some (slice_get (names_of is) 1)) || (not (is_some (slice_get (names_of is) 2)) || (not g || false))))) (name_given is 3 (omega arith))
 
 enough : (kind : Kind) (names : List Text) → names_wanted kind ≤ length names → miss kind names ≡ false
 enough Run = enough_four
@@ -173,6 +179,7 @@ enough Live = enough_four
 enough Check = enough_three
 enough Show = enough_one
 enough Generate = enough_two
+enough Switch = enough_four
 
 few : (kind : Kind) (names : List Text) → length names < names_wanted kind → miss kind names ≡ true
 few Run = few_four
@@ -180,6 +187,7 @@ few Live = few_four
 few Check = few_three
 few Show = few_one
 few Generate = few_two
+few Switch = few_four
 
 check_is : (kind : Kind) (rows : List Row) → check_fault (sub kind) rows false ≡ (if missing kind rows then MissingRequiredArgument ∷ [] else [])
 check_is Run rows = refl
@@ -187,6 +195,7 @@ check_is Live rows = refl
 check_is Check rows = refl
 check_is Show rows = refl
 check_is Generate rows = refl
+check_is Switch rows = refl
 
 -- ---- no defaults
 
@@ -196,6 +205,7 @@ without_defaults Live = refl
 without_defaults Check = refl
 without_defaults Show = refl
 without_defaults Generate = refl
+without_defaults Switch = refl
 
 and_parts : (a b : Bool) → (a && b) ≡ true → (a ≡ true) × (b ≡ true)
 and_parts true b e = (refl, e)

@@ -1,5 +1,5 @@
 -- Words that are refused are those of no command.
-use Rattle.std.proofs.Common.{◌≡◌, ◌≢◌, ◌⊎◌, ◌∙◌, ◌++◌, ◌==◌, ◌&&◌, ◌||◌, not, ℕ, Bool, true, false, true≢false, List, [], ◌∷◌, Option, Some, None, option_map, option_and_then, refl, sym, ap, ap₂, subst, length, nat_le, if◌then◌else◌, inl, inr, append_assoc, append-nil, is_some}
+use Rattle.std.proofs.Common.{◌≡◌, ◌≢◌, ◌⊎◌, ◌∙◌, ◌++◌, ◌==◌, ◌&&◌, ◌||◌, not, ℕ, Bool, true, false, true≢false, List, [], ◌∷◌, Option, Some, None, option_map, option_and_then, refl, sym, ap, ap₂, subst, length, nat_le, bytes_eq, codes, if◌then◌else◌, inl, inr, append_assoc, append-nil, is_some}
 use Rattle.std.proofs.lemmas.Bool.{eqb-true}
 use Rattle.std.specs.Prelude.{unwrap_or}
 use Rattle.clap.specs.Words.{Text}
@@ -9,9 +9,9 @@ use Rattle.dim_words.specs.declared.kind.Kind.{Kind}
 use Rattle.dim_words.specs.declared.kind.Kind.TheVariants as kinds
 use Rattle.dim_words.specs.declared.kind.Setting.{Setting}
 use Rattle.dim_words.specs.declared.kind.Setting.TheVariants.{Fuel, Quantum, Depth, Seed, Workers}
-use Rattle.dim_words.specs.Words.{Asked, Run, Live, Check, Show, RunWords, CheckWords, show_by, generate_by, is_run, is_check, Parted, are_apart, asked_by, at_least, check_by, generate_of, history_place, is_dash, is_history, is_name, least_of, most_of, names_wanted, placed, run_by, settings_of, unset, value_of, when, with_name, with_value}
+use Rattle.dim_words.specs.Words.{Asked, Run, Live, Check, Show, Switch, RunWords, CheckWords, SwitchWords, show_by, generate_by, switch_by, switch_of, state_of, is_switch, is_run, is_check, Parted, are_apart, asked_by, at_least, check_by, generate_of, history_place, is_dash, is_history, is_name, least_of, most_of, names_wanted, placed, run_by, settings_of, unset, value_of, when, with_name, with_value}
 use Rattle.dim_words.specs.Kept.{Kept, has_seen, is_dashed, is_here, keep_given, keep_name, mark, may_stand, next_place, with_given, with_word}
-use Rattle.dim_words.proofs.Items.{Given, Item, Name, keep_items, option_word, part_items, some≢none}
+use Rattle.dim_words.proofs.Items.{Given, Item, Name, keep_items, option_word, part_items, same_word, some≢none}
 use Rattle.dim_words.proofs.Walks.{given_kept, name_kept, names_of, then_is}
 use Rattle.dim_words.proofs.Taken.{Agree, agree_set, field, no_field}
 
@@ -43,12 +43,21 @@ count_generate (a ∷ []) ne = refl
 count_generate (a ∷ b ∷ []) ne = absurd (ne refl)
 count_generate (a ∷ b ∷ c ∷ more) ne = refl
 
+count_switch : (names : List Text) → length names ≢ 4 → switch_by names ≡ None
+count_switch [] ne = refl
+count_switch (a ∷ []) ne = refl
+count_switch (a ∷ b ∷ []) ne = refl
+count_switch (a ∷ b ∷ c ∷ []) ne = refl
+count_switch (a ∷ b ∷ c ∷ d ∷ []) ne = absurd (ne refl)
+count_switch (a ∷ b ∷ c ∷ d ∷ e ∷ more) ne = refl
+
 pub wrong_count : (kind : Kind) (p : Parted) → length p.names ≢ names_wanted kind → asked_by kind p ≡ None
 wrong_count kinds.Run p ne = count_run Run p.names (settings_of p) ne
 wrong_count kinds.Live p ne = count_run Live p.names (settings_of p) ne
 wrong_count kinds.Check p ne = count_check p.names ne
 wrong_count kinds.Show p ne = count_show p.names ne
 wrong_count kinds.Generate p ne = count_generate p.names ne
+wrong_count kinds.Switch p ne = count_switch p.names ne
 
 placed_names : (t : Setting) (n : ℕ) (p q : Parted) → placed t n p ≡ Some q → q.names ≡ p.names
 placed_names Fuel n p q e = go p.fuel e
@@ -205,6 +214,14 @@ bad_show [] bad = refl
 bad_show (a ∷ []) bad = unless (is_history a) (Show a) _ (λ e. both _ _ (history_good a e) refl) bad
 bad_show (a ∷ b ∷ more) bad = refl
 
+-- a number begins with no dash
+number_good : (w : Text) (n : ℕ) → number_of 4294967295 w ≡ Some n → may_stand None w ≡ true
+number_good w n e = go (is_dashed w) refl
+  where
+    go : (x : Bool) → is_dashed w ≡ x → may_stand None w ≡ true
+    go true d = absurd (some≢none n (sym e ∙ no_number w 4294967295 d))
+    go false d = ap (λ y. not y || (is_dash w && false)) d
+
 bad_generate : (names : List Text) → good_names None names ≡ false → generate_by names ≡ None
 bad_generate [] bad = refl
 bad_generate (a ∷ []) bad = refl
@@ -212,12 +229,48 @@ bad_generate (a ∷ b ∷ []) bad = go (number_of 4294967295 a) refl
   where
     go : (o : Option ℕ) → number_of 4294967295 a ≡ o → generate_of b o ≡ None
     go None e = refl
-    go (Some n) e = unless (is_name b) _ _ (λ name. both _ _ (plain (is_dashed a) refl) (both _ _ (name_good None b name) refl)) bad
-      where
-        plain : (x : Bool) → is_dashed a ≡ x → may_stand None a ≡ true
-        plain true d = absurd (some≢none n (sym e ∙ no_number a 4294967295 d))
-        plain false d = ap (λ y. not y || (is_dash a && false)) d
+    go (Some n) e = unless (is_name b) _ _ (λ name. both _ _ (number_good a n e) (both _ _ (name_good None b name) refl)) bad
 bad_generate (a ∷ b ∷ c ∷ more) bad = refl
+
+-- a state begins with no dash
+state_good : (w : Text) (on : Bool) → state_of w ≡ Some on → may_stand None w ≡ true
+state_good w on e = first (bytes_eq w (codes "on")) refl e
+  where
+    word_good : (other : Text) → bytes_eq w other ≡ true → may_stand None other ≡ true → may_stand None w ≡ true
+    word_good other same good = ap (may_stand None) (same_word w other same) ∙ good
+
+    second : (b : Bool) → bytes_eq w (codes "off") ≡ b → (if b then Some false else None) ≡ Some on → may_stand None w ≡ true
+    second true is e = word_good (codes "off") is refl
+    second false is e = absurd (some≢none on (sym e))
+
+    first : (b : Bool) → bytes_eq w (codes "on") ≡ b → (if b then Some true else (if bytes_eq w (codes "off") then Some false else None)) ≡ Some on → may_stand None w ≡ true
+    first true is e = word_good (codes "on") is refl
+    first false is e = second (bytes_eq w (codes "off")) refl e
+
+switch_good : (w : SwitchWords) (i state : Text) → may_stand None i ≡ true → may_stand None state ≡ true → is_switch w ≡ true
+    → good_names (Some 0) (w.history ∷ i ∷ state ∷ w.new_history ∷ []) ≡ true
+switch_good w i state number on e =
+    let c = and_parts (is_history w.history && is_name w.new_history) (not (bytes_eq w.history w.new_history)) e in
+    let a = and_parts (is_history w.history) (is_name w.new_history) c.0 in
+    both _ _ (history_good w.history a.0) (both _ _ number (both _ _ on (both _ _ (name_good None w.new_history a.1) refl)))
+
+bad_switch : (names : List Text) → good_names (Some 0) names ≡ false → switch_by names ≡ None
+bad_switch [] bad = refl
+bad_switch (a ∷ []) bad = refl
+bad_switch (a ∷ b ∷ []) bad = refl
+bad_switch (a ∷ b ∷ c ∷ []) bad = refl
+bad_switch (a ∷ b ∷ c ∷ d ∷ []) bad = go (number_of 4294967295 b) refl
+  where
+    further : (n : ℕ) → number_of 4294967295 b ≡ Some n → (o : Option Bool) → state_of c ≡ o → option_and_then (switch_of a d n) o ≡ None
+    further n i None e = refl
+    further n i (Some on) e =
+        let w : SwitchWords = record { history = a; index = n; on = on; new_history = d } in
+        unless (is_switch w) (Switch w) _ (switch_good w b c (number_good b n i) (state_good c on e)) bad
+
+    go : (o : Option ℕ) → number_of 4294967295 b ≡ o → option_and_then (λ n. option_and_then (switch_of a d n) (state_of c)) o ≡ None
+    go None i = refl
+    go (Some n) i = further n i (state_of c) refl
+bad_switch (a ∷ b ∷ c ∷ d ∷ e ∷ more) bad = refl
 
 pub bad_names : (kind : Kind) (q : Parted) → good_names (history_place kind) q.names ≡ false → asked_by kind q ≡ None
 bad_names kinds.Run q bad = bad_run Run q.names (settings_of q) bad
@@ -225,6 +278,7 @@ bad_names kinds.Live q bad = bad_run Live q.names (settings_of q) bad
 bad_names kinds.Check q bad = bad_check q.names bad
 bad_names kinds.Show q bad = bad_show q.names bad
 bad_names kinds.Generate q bad = bad_generate q.names bad
+bad_names kinds.Switch q bad = bad_switch q.names bad
 
 refused_name : (w : Text) (k : Kept) → keep_name w k ≡ None → may_stand k.until w ≡ false
 refused_name w k e = go (may_stand k.until w) e

@@ -8,7 +8,7 @@ use Rattle.clap.specs.Kinds.{Kinds, or_else}
 use Rattle.clap.specs.Walk.{Walk, arg_by_id, arg_by_index, arg_by_long, has_row, settled_rows, used_by_id, walked}
 use Rattle.clap.specs.Faults.{settle_fault, stray_fault, turn_fault, use_fault, walk_fault}
 use Rattle.dim_words.specs.declared.kind.Kind.{Kind}
-use Rattle.dim_words.specs.declared.kind.Kind.TheVariants.{Run, Live, Check, Show, Generate}
+use Rattle.dim_words.specs.declared.kind.Kind.TheVariants.{Run, Live, Check, Show, Generate, Switch}
 use Rattle.clap.specs.declared.error.kind.ErrorKind.TheVariants.{UnknownArgument, InvalidSubcommand}
 use Rattle.dim_words.specs.declared.kind.Setting.{Setting}
 use Rattle.dim_words.specs.declared.kind.Setting.TheVariants.{Fuel, Quantum, Depth, Seed, Workers}
@@ -111,6 +111,7 @@ wanted_few Live = omega arith
 wanted_few Check = omega arith
 wanted_few Show = omega arith
 wanted_few Generate = omega arith
+wanted_few Switch = omega arith
 
 -- ---- rows
 

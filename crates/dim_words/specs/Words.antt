@@ -18,7 +18,8 @@ kind_of word =
     else (if bytes_eq word (codes "check") then Some kinds.Check
     else (if bytes_eq word (codes "show") then Some kinds.Show
     else (if bytes_eq word (codes "generate") then Some kinds.Generate
-    else None))))
+    else (if bytes_eq word (codes "switch") then Some kinds.Switch
+    else None)))))
 
 abbrev pub kind_word : Kind → List ℕ
 kind_word kinds.Run = codes "run"
@@ -26,6 +27,7 @@ kind_word kinds.Live = codes "live"
 kind_word kinds.Check = codes "check"
 kind_word kinds.Show = codes "show"
 kind_word kinds.Generate = codes "generate"
+kind_word kinds.Switch = codes "switch"
 
 -- the setting whose option a word is
 abbrev pub setting_of : List ℕ → Option Setting
@@ -59,6 +61,7 @@ names_wanted kinds.Live = 4
 names_wanted kinds.Check = 3
 names_wanted kinds.Show = 1
 names_wanted kinds.Generate = 2
+names_wanted kinds.Switch = 4
 
 abbrev pub history_place : Kind → Option ℕ
 history_place kinds.Run = Some 1
@@ -66,6 +69,7 @@ history_place kinds.Live = Some 1
 history_place kinds.Check = Some 1
 history_place kinds.Show = Some 0
 history_place kinds.Generate = None
+history_place kinds.Switch = Some 0
 
 -- ---- values
 
@@ -167,6 +171,13 @@ pub record CheckWords : Type 0 where
   pub history : List ℕ
   pub trace : List ℕ
 
+-- what `switch` is given
+pub record SwitchWords : Type 0 where
+  pub history : List ℕ
+  pub index : ℕ
+  pub on : Bool
+  pub new_history : List ℕ
+
 -- the files written differ from each other and from those read
 abbrev pub are_apart : RunWords → Bool
 are_apart w =
@@ -181,6 +192,10 @@ is_run w = is_name w.program && is_history w.history && is_name w.new_history &&
 
 abbrev pub is_check : CheckWords → Bool
 is_check w = is_name w.program && is_history w.history && is_name w.trace
+
+-- the file written differs from the one read
+abbrev pub is_switch : SwitchWords → Bool
+is_switch w = is_history w.history && is_name w.new_history && not (bytes_eq w.history w.new_history)
 
 abbrev pub or_default : Option ℕ → ℕ → ℕ
 or_default None n = n
@@ -206,6 +221,7 @@ pub data Asked : Type 0 where
   Check : CheckWords → Asked
   Show : List ℕ → Asked
   Generate : ℕ → List ℕ → Asked
+  Switch : SwitchWords → Asked
 
 abbrev pub when : Bool → Asked → Option Asked
 when b asked = if b then Some asked else None
@@ -236,12 +252,30 @@ abbrev pub generate_by : List (List ℕ) → Option Asked
 generate_by (n ∷ program ∷ []) = generate_of program (number_of 4294967295 n)
 generate_by names = None
 
+-- the state that a word names
+abbrev pub state_of : List ℕ → Option Bool
+state_of word =
+    if bytes_eq word (codes "on") then Some true
+    else (if bytes_eq word (codes "off") then Some false
+    else None)
+
+abbrev pub switch_of : List ℕ → List ℕ → ℕ → Bool → Option Asked
+switch_of history new_history index on =
+    let w : SwitchWords = record { history = history; index = index; on = on; new_history = new_history } in when (is_switch w) (Switch w)
+
+-- `switch HISTORY I STATE NEWHISTORY`
+abbrev pub switch_by : List (List ℕ) → Option Asked
+switch_by (history ∷ i ∷ state ∷ new_history ∷ []) =
+    option_and_then (λ index. option_and_then (switch_of history new_history index) (state_of state)) (number_of 4294967295 i)
+switch_by names = None
+
 abbrev pub asked_by : Kind → Parted → Option Asked
 asked_by kinds.Run p = run_by Run p.names (settings_of p)
 asked_by kinds.Live p = run_by Live p.names (settings_of p)
 asked_by kinds.Check p = check_by p.names
 asked_by kinds.Show p = show_by p.names
 asked_by kinds.Generate p = generate_by p.names
+asked_by kinds.Switch p = switch_by p.names
 
 abbrev pub command_by : Kind → List (List ℕ) → Option Asked
 command_by k words = option_and_then (asked_by k) (parted k words)

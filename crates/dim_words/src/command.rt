@@ -2,8 +2,8 @@
 ghost use Rattle.std.specs.Prelude.{◌≡◌, true, false, IfSome, option_map};
 ghost use Rattle.std.specs.Str.{bytes_eq};
 ghost use Rattle.dim_run.specs.Settings.{AreSettings};
-ghost use Rattle.dim_words.specs.Words.{is_name, is_dash, is_history, are_apart, is_run, is_check, settings_of, default_settings, run_by, check_by, show_by, generate_by, RunWords, Asked, Check, Show, Generate};
-ghost use Rattle.dim_words.specs.Commands.{asked, run_words, check_words, IsFineRun, IsFine};
+ghost use Rattle.dim_words.specs.Words.{is_name, is_dash, is_history, are_apart, is_run, is_check, settings_of, default_settings, run_by, check_by, show_by, generate_by, state_of, is_switch, switch_by, RunWords, Asked, Check, Show, Generate, Switch};
+ghost use Rattle.dim_words.specs.Commands.{asked, run_words, check_words, switch_words, IsFineRun, IsFine};
 ghost use Rattle.dim_words.specs.Found.{asked_line};
 
 use crate::kind::Kind;
@@ -32,6 +32,18 @@ pub struct CheckCommand<'a> {
     pub trace: &'a Word,
 }
 
+/// What `switch` is given.
+#[derive(Clone, Copy, Debug)]
+pub struct SwitchCommand<'a> {
+    /// The history to read, or `-`.
+    pub history: &'a Word,
+    /// The number of the signature.
+    pub index: u32,
+    /// The state that the signature is put into.
+    pub on: bool,
+    pub new_history: &'a Word,
+}
+
 /// A command with what it is given.
 #[derive(Clone, Copy, Debug)]
 pub enum Command<'a> {
@@ -42,6 +54,7 @@ pub enum Command<'a> {
     Show(&'a Word),
     /// The number of a program, and where it is to be stored.
     Generate(u32, &'a Word),
+    Switch(SwitchCommand<'a>),
 }
 
 // Whether a word can be the name of a file.
@@ -99,6 +112,16 @@ impl<'a> CheckCommand<'a> {
         ensures { result ≡ is_check (check_words self.now) }
     {
         is_name(self.program) && is_history(self.history) && is_name(self.trace)
+    }
+}
+
+impl<'a> SwitchCommand<'a> {
+    fn is_switch(&self) -> bool
+        ensures { result ≡ is_switch (switch_words self.now) }
+    {
+        is_history(self.history)
+            && is_name(self.new_history)
+            && self.history.as_str() != self.new_history.as_str()
     }
 }
 
@@ -186,6 +209,36 @@ fn generate_of(parting: &Parting) -> Option<(u32, &Word)>
     }
 }
 
+// The state that a word names.
+fn state_of(word: &Word) -> Option<bool>
+    ensures { result ≡ state_of word.now }
+{
+    match word.as_str() {
+        "on" => Some(true),
+        "off" => Some(false),
+        _ => None,
+    }
+}
+
+fn switch_of(parting: &Parting) -> Option<SwitchCommand<'_>>
+    ensures { option_map (λ c. Switch (switch_words c)) result ≡ switch_by parting.now.names }
+{
+    let [history, index, state, new_history] = parting.names.as_slice() else {
+        return None;
+    };
+    let switch = SwitchCommand {
+        history,
+        index: number(index.as_slice(), u32::MAX)?,
+        on: state_of(state)?,
+        new_history,
+    };
+    if switch.is_switch() {
+        Some(switch)
+    } else {
+        None
+    }
+}
+
 impl Line {
     /// The command that the line is, and `None` where it is none.
     pub fn command(&self) -> Option<Command<'_>>
@@ -201,6 +254,7 @@ impl Line {
                 let (number, program) = generate_of(&self.parting)?;
                 Some(Command::Generate(number, program))
             }
+            Kind::Switch => Some(Command::Switch(switch_of(&self.parting)?)),
         }
     }
 }

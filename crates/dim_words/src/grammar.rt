@@ -103,6 +103,7 @@ fn leaf<'a>(alloc: Global, kind: Kind) -> Result<Command<'a>, OutOfMemory>
         Kind::Check => three_names(alloc, "check"),
         Kind::Show => one_name(alloc, "show"),
         Kind::Generate => two_names(alloc, "generate"),
+        Kind::Switch => four_names(alloc, "switch"),
     }
 }
 
@@ -125,5 +126,6 @@ pub fn whole<'a>(alloc: Global) -> Result<Command<'a>, OutOfMemory>
     let command = with_leaf(alloc, command, Kind::Live)?;
     let command = with_leaf(alloc, command, Kind::Check)?;
     let command = with_leaf(alloc, command, Kind::Show)?;
-    with_leaf(alloc, command, Kind::Generate)
+    let command = with_leaf(alloc, command, Kind::Generate)?;
+    with_leaf(alloc, command, Kind::Switch)
 }

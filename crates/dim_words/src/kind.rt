@@ -14,6 +14,7 @@ pub enum Kind {
     Check,
     Show,
     Generate,
+    Switch,
 }
 
 /// A setting that an option gives.
@@ -42,6 +43,8 @@ impl Kind {
             Some(Kind::Show)
         } else if text == "generate" {
             Some(Kind::Generate)
+        } else if text == "switch" {
+            Some(Kind::Switch)
         } else {
             None
         }
@@ -57,6 +60,7 @@ impl Kind {
             Kind::Check => "check",
             Kind::Show => "show",
             Kind::Generate => "generate",
+            Kind::Switch => "switch",
         }
     }
 
@@ -77,7 +81,7 @@ impl Kind {
     {
         match self {
             Kind::Run | Kind::Live | Kind::Check => Some(1),
-            Kind::Show => Some(0),
+            Kind::Show | Kind::Switch => Some(0),
             Kind::Generate => None,
         }
     }

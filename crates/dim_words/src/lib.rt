@@ -9,7 +9,7 @@ mod kind;
 mod parting;
 mod seen;
 
-pub use command::{CheckCommand, Command, RunCommand, default_settings, is_dash};
+pub use command::{CheckCommand, Command, RunCommand, SwitchCommand, default_settings, is_dash};
 pub use kind::Kind;
 pub use parting::{Line, Parting, read_line};
 

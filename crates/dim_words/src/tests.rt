@@ -3,7 +3,7 @@ use dim_base::{OutOfMemory, Word};
 use std::alloc::Global;
 use std::test::Fail;
 
-const COMMANDS: [&str; 11] = [
+const COMMANDS: [&str; 14] = [
     "run p - h t",
     "run --fuel 8192 p --quantum 1024 g --depth 32 h --seed 4294967295 t",
     "run p - h t --fuel 1 --quantum 1 --depth 1 --seed 0",
@@ -15,9 +15,12 @@ const COMMANDS: [&str; 11] = [
     "show -",
     "show help",
     "generate 4294967295 p",
+    "switch g 0 off h",
+    "switch - 4294967295 on h",
+    "switch on 7 on off",
 ];
 
-const OTHERS: [&str; 33] = [
+const OTHERS: [&str; 48] = [
     "",
     "run p",
     "run p - h h",
@@ -51,6 +54,21 @@ const OTHERS: [&str; 33] = [
     "show - -",
     "generate 4294967296 p",
     "generate 5 -",
+    "switch g 0 yes h",
+    "switch g 0 On h",
+    "switch g 0 on g",
+    "switch - 0 on -",
+    "switch g 0 on -",
+    "switch g 0 - h",
+    "switch g - on h",
+    "switch g 4294967296 on h",
+    "switch g 00 on h",
+    "switch g +0 on h",
+    "switch g -1 on h",
+    "switch g 0 on",
+    "switch g 0 on h x",
+    "switch g 0 on h --depth 4",
+    "switch g on 0 h",
 ];
 
 // The line that the words of a text may be.
@@ -110,6 +128,21 @@ fn a_number_is_read(rt: HostRuntime) -> Result<(), Fail> {
         Some(Command::Generate(number, program)) => {
             assert_eq!(rt; number, 12);
             assert_eq!(rt; program.as_str(), "p");
+        }
+        _ => assert!(rt; false),
+    }
+    Ok(())
+}
+
+#[test]
+fn a_switch_is_read(rt: HostRuntime) -> Result<(), Fail> {
+    let line = read(rt.alloc(), "switch g 12 off h")?;
+    match line.as_ref().and_then(|line| line.command()) {
+        Some(Command::Switch(switch)) => {
+            assert_eq!(rt; switch.history.as_str(), "g");
+            assert_eq!(rt; switch.index, 12);
+            assert_eq!(rt; switch.on, false);
+            assert_eq!(rt; switch.new_history.as_str(), "h");
         }
         _ => assert!(rt; false),
     }

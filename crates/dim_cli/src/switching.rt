@@ -1,0 +1,52 @@
+//! A history with one signature in another state, and the report of `switch`.
+ghost use Rattle.std.specs.Prelude.{◌≡◌, ◌<◌, length, IfOk};
+ghost use Rattle.std.specs.String.{string_bytes};
+ghost use Rattle.dim_history_file.specs.Seen.{value_of};
+ghost use Rattle.dim_history_file.specs.Spelling.{state_word};
+ghost use Rattle.dim_cli.specs.Output.{switched_at};
+ghost use Rattle.dim_cli.specs.Report.{switched};
+
+use crate::report::{Ending, Report};
+use dim_base::{Bytes, OutOfMemory};
+use dim_history_file::History;
+use std::alloc::{AllocError, Global};
+
+/// What a state is called.
+pub fn state_word(on: bool) -> &'static str
+    ensures { result.now ≡ state_word on }
+{
+    if on { "on" } else { "off" }
+}
+
+/// The same history with the signature of this number in this state.
+pub fn switched_history(history: History, index: u32, on: bool) -> History
+    requires { index < length history.catalogue.sigs }
+    ensures { value_of result ≡ switched_at index on (value_of history) }
+{
+    history.law();
+    let History {
+        names,
+        mut catalogue,
+        ..
+    } = history;
+    catalogue.switch(index, on);
+    History { names, catalogue }
+}
+
+fn switched_text(alloc: Global, index: u32, on: bool) -> Result<String, AllocError>
+    ensures { IfOk result (λ text. string_bytes text ≡ (switched index on).text) }
+{
+    let state = state_word(on);
+    format!(in alloc; "signature {index} {state}\n")
+}
+
+/// The report of `switch`: the signature's number and its new state.
+pub fn switched(alloc: Global, index: u32, on: bool) -> Result<Report, OutOfMemory>
+    ensures { IfOk result (λ r. r ≡ switched index on) }
+{
+    let text = switched_text(alloc, index, on)?;
+    Ok(Report {
+        ending: Ending::Done,
+        text: Bytes::from_vec(text.into_bytes()),
+    })
+}
