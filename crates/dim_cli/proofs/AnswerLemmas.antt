@@ -16,12 +16,12 @@ use Rattle.dim_words.specs.Words.{RunWords, CheckWords, Asked, Run, Check}
 use Rattle.dim_cli.specs.Quiet.{quiet_command}
 use Rattle.dim_cli.specs.Course.{Course, WhereTold, StopCause, Runs, course, run_course, check_course}
 use Rattle.dim_cli.specs.Headline.{Stored, HasRun, outcome_status}
-use Rattle.dim_cli.specs.Output.{played_left, entries_of, refusal_status, fault_line, memory_line}
+use Rattle.dim_cli.specs.Output.{run_report, played_left, entries_of, refusal_status, fault_line, memory_line}
 use Rattle.dim_cli.specs.Report.{status_of, IsStatus}
 use Rattle.dim_cli.specs.Sinks.{SinkAt, PutsLine}
-use Rattle.dim_cli.specs.Top.{FilesAt, Answers, Concludes, ExactlyWhere, EndsRefuted, IsOfWords, IsDone, IsCutShort, IsUnreported, EndsWith}
+use Rattle.dim_cli.specs.Top.{FilesAt, Answers, Concludes, Reports, ExactlyWhere, EndsRefuted, IsOfWords, IsDone, IsCutShort, IsUnreported, EndsWith}
 use Rattle.dim_cli.proofs.CompleteLemmas.{comes, played_status}
-use Rattle.dim_cli.proofs.HeadlineLemmas.{headline}
+use Rattle.dim_cli.proofs.HeadlineLemmas.{headline, status_at}
 use Rattle.dim_cli.proofs.JudgedLemmas.{says_yes, says_no}
 use Rattle.dim_cli.proofs.RowLemmas.{low, absent_row, long_row, bad_row, unread_row, full_row, refuted_row, untraced_row, unnumbered_row}
 use Rattle.dim_cli.proofs.TopLemmas.{refused, cut_short, wanting, course-Some}
@@ -199,7 +199,11 @@ module _ (asked : Option Asked) (course : Named → Course Report) (r : Result R
     headline = λ w is_run has before told after told_after.
         let ok = reported r status was is e.concludes (outcomes status has) in
         let stored = subst (λ (q : Result Report Stop). OnOk q (WhereTold old.told (λ b. Stored w b new.told))) ok.1 (run w is_run).stored in
-        headline w before new.told (stored before told) after told_after;
+        let runs = subst (λ (q : Result Report Stop). Runs (λ (x : Report). x) (course before) before q new.told) ok.1 (e.runs before told) in
+        let put : Reports ok.0 status was is = subst (λ (q : Result Report Stop). Concludes q status was is) ok.1 e.concludes in
+        let s = stored before told in
+        let by = status_at (course before) ok.0 (run_report s.inputs w.settings) status was is runs.0 (ap (λ (d : Course Report). d.ending) ((run w is_run).goes before) ∙ s.ending) put (no_nine status (outcomes status has)) in
+        headline w status before new.told s by after told_after;
     complete = λ w is_run no_fault no_put_fault before told x good.
         comes (played_left w.settings) (course before) w before x status (outcome_status x (entries_of x w.settings)) new.told was is ((run w is_run).goes before) good (played_status x w.settings)
         (λ seven. no_fault (rose seven)) (λ eight. no_put_fault (unput r status was is e.concludes eight).2) (λ s t n. all_done s t n before told);

@@ -12,15 +12,16 @@ use Rattle.dim_cli.specs.declared.stop.Stop.{Stop}
 use Rattle.dim_cli.specs.declared.stop.Stop.TheVariants as stops
 use Rattle.dim_words.specs.Words.{RunWords, CheckWords, Asked, Run, Live, Check}
 use Rattle.dim_cli.specs.Quiet.{quiet_command}
-use Rattle.dim_cli.specs.Course.{Course, WhereTold, StopCause, HasWords, course, live_course}
+use Rattle.dim_cli.specs.Course.{Course, WhereTold, StopCause, Runs, HasWords, course, live_course}
 use Rattle.dim_cli.specs.Headline.{HasRun, outcome_status}
 use Rattle.dim_cli.specs.Live.{Lives, LiveStored, IsEarly}
-use Rattle.dim_cli.specs.Output.{left_by, memory_line}
+use Rattle.dim_cli.specs.Output.{left_by, report_by, memory_line}
 use Rattle.dim_cli.specs.Report.{IsStatus}
 use Rattle.dim_cli.specs.Sinks.{SinkAt}
-use Rattle.dim_cli.specs.Top.{FilesAt, Answers, AnswersLive, Concludes, IsOfWords, IsUnstored}
+use Rattle.dim_cli.specs.Top.{FilesAt, Answers, AnswersLive, Concludes, Reports, IsOfWords, IsUnstored}
 use Rattle.dim_cli.proofs.AnswerLemmas.{Ended, answered, answered_quietly, no_seven, outcomes, no_nine, no_refusal, reported}
 use Rattle.dim_cli.proofs.CompleteLemmas.{comes}
+use Rattle.dim_cli.proofs.HeadlineLemmas.{status_at}
 use Rattle.dim_cli.proofs.LiveLemmas.{live_headline}
 
 -- no store was tried
@@ -79,7 +80,11 @@ answered_live law w r status old new was is count count' l words cause concludes
       headline = λ has before told after told_after.
           let ok = reported r status was is concludes (outcomes status has) in
           let stored = subst (λ (q : Result Report Stop). OnOk q (WhereTold old.told (λ b. LiveStored l.entries w b new.told))) ok.1 l.stored in
-          live_headline l.entries w before new.told (stored before told) after told_after;
+          let runs = subst (λ (q : Result Report Stop). Runs (λ (x : Report). x) (goes before) before q new.told) ok.1 (l.runs before told) in
+          let put : Reports ok.0 status was is = subst (λ (q : Result Report Stop). Concludes q status was is) ok.1 concludes in
+          let s = stored before told in
+          let by = status_at (goes before) ok.0 (report_by s.made.inputs w.settings l.entries) status was is runs.0 s.ending put (no_nine status (outcomes status has)) in
+          live_headline l.entries w status before new.told s by after told_after;
       counted = λ has.
           let ok = reported r status was is concludes (outcomes status has) in
           subst (λ (q : Result Report Stop). OnOk q (count' ≡ risen (by_threads (past l.entries)) count)) ok.1 l.counted;

@@ -18,7 +18,7 @@ use Rattle.dim_cli.specs.Rechecked.{check_of, AreKept, StoredLaw}
 use Rattle.dim_cli.proofs.CheckLemmas.{texts, the_program, the_trace, behind_history, behind_program, given, behind_inputs, behind_texts}
 use Rattle.dim_cli.proofs.CompleteLemmas.{fetched, history_fetched, then_ends, taken}
 
-module _ (one : VerdictLaw) (found : FoundLaw) (w : RunWords) (before after files : Named) (h : Headline w before after) (good : IsGood w before h.inputs) (kept : AreKept w before after files) where
+module _ (one : VerdictLaw) (found : FoundLaw) (w : RunWords) (status : ℕ) (before after files : Named) (h : Headline w status before after) (good : IsGood w before h.inputs) (kept : AreKept w before after files) where
   abbrev stored : List ℕ
   stored = trace_by h.inputs w.settings h.entries
 
@@ -58,4 +58,4 @@ module _ (one : VerdictLaw) (found : FoundLaw) (w : RunWords) (before after file
       (then_ends (takes_given read) judges judged (Ok (checked (length h.entries))) given_is (ap (λ (v : Verdict). (tells (length h.entries) v).ending) verdict_is))
 
 pub stored_law : VerdictLaw → FoundLaw → StoredLaw
-stored_law one found w before after files h good kept = says_yes one found w before after files h good kept
+stored_law one found w status before after files h good kept = says_yes one found w status before after files h good kept

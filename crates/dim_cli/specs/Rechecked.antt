@@ -1,5 +1,5 @@
 -- What `check` says of what a run has stored.
-use Rattle.std.specs.Prelude.{◌≡◌, length, Ok}
+use Rattle.std.specs.Prelude.{◌≡◌, ℕ, length, Ok}
 use Rattle.dim_base.specs.Files.{Named}
 use Rattle.dim_words.specs.Words.{RunWords, CheckWords}
 use Rattle.dim_cli.specs.Report.{checked}
@@ -18,5 +18,5 @@ pub record AreKept (w : RunWords) (before after files : Named) : Type 0 where
 
 -- Over such files the check of a run says yes, and the number of its entries.
 abbrev pub StoredLaw : Type 0
-StoredLaw = (w : RunWords) (before after files : Named) (h : Headline w before after) → IsGood w before h.inputs
+StoredLaw = (w : RunWords) (status : ℕ) (before after files : Named) (h : Headline w status before after) → IsGood w before h.inputs
     → AreKept w before after files → (check_course files (check_of w)).ending ≡ Ok (checked (length h.entries))

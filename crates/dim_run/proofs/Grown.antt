@@ -13,12 +13,13 @@ use Rattle.dim_rag.specs.declared.entry.Entry.TheVariants.{Go, Yield, Got, Free,
 use Rattle.dim_rag.specs.declared.entry.Named.{Named}
 use Rattle.dim_rag.specs.Born.{edge_after}
 use Rattle.dim_rag.specs.History.{past}
+use Rattle.dim_rag.specs.Tables.{Replay}
 use Rattle.dim_rag.specs.Yielded.{yielded}
 use Rattle.dim_signature.specs.Sig.{Sig, IsSig, counted}
 use Rattle.dim_signature.specs.Catalogue.{IsCatalogue, changed_at}
 use Rattle.dim_cover.specs.Named.{with_new, IsNamed, NamedLaw}
 use Rattle.dim_cover.proofs.Named.{law as named_law}
-use Rattle.dim_gate.specs.Gate.{Constants}
+use Rattle.dim_gate.specs.Gate.{Gate, Constants, constants, replay}
 use Rattle.dim_gate.specs.Known.{Known, knowns, known_sigs, learnt}
 use Rattle.dim_gate.specs.Legal.{Legal, IsLegalAfter}
 use Rattle.dim_gate.proofs.Vetted.{legal_made}
@@ -223,3 +224,22 @@ pub numbered : (c : Constants) (es : List Entry) → Legal c (past es) → AreNu
 numbered c es k =
     let n : ℕ = length (known_sigs c.loaded c.depth (past es)) in
     by_place n es (turned (IsNumbered n) es (all_named c n (past es) k (omega arith)))
+
+-- ---- at a gate
+-- the Yields in the tables of a gate name signatures of its catalogue
+pub numbered_at : (g : Gate) (tables : Replay) (sigs : List Sig) → tables ≡ replay g → sigs ≡ known_sigs g.loaded g.depth (past g.entries) → Legal (constants g) (past g.entries) → AreNumbered (length sigs) tables.entries
+numbered_at g tables sigs same is legal =
+    subst (λ (x : Replay). AreNumbered (length sigs) x.entries) (sym same)
+    (subst (λ (x : List Sig). AreNumbered (length x) g.entries) (sym is) (numbered (constants g) g.entries legal))
+
+-- where they are counted, the signatures have grown
+pub grown_at : (before g : Gate) (tables : Replay) (sigs now : List Sig) → g ≡ before → tables ≡ replay g → sigs ≡ known_sigs g.loaded g.depth (past g.entries) → now ≡ counted_from 0 tables.entries sigs → now ≡ grown before.loaded before.depth before.entries
+grown_at before g tables sigs now same told is step =
+    step
+    ∙ ap (λ (x : Replay). counted_from 0 x.entries sigs) told
+    ∙ ap (counted_from 0 g.entries) is
+    ∙ ap (λ (x : Gate). grown x.loaded x.depth x.entries) same
+
+-- the same by the constants and the entries
+pub grown_by : (c : Constants) (g : Gate) (entries : List Entry) → constants g ≡ c → entries ≡ g.entries → grown g.loaded g.depth g.entries ≡ grown c.loaded c.depth entries
+grown_by c g entries same is = ap (λ (x : Constants). grown x.loaded x.depth g.entries) same ∙ ap (grown c.loaded c.depth) (sym is)
