@@ -36,12 +36,16 @@ fn begin<H: House>(
     house: &mut H,
     program: &Program,
 ) -> Result<(H::Gate, Pass, Pass, Vec<Pass>), OutOfMemory>
-    ensures threads { IfOk result (λ r. (opening_of (H.Gate.start r.0)).constants.threads ≡ thread_count program.now) }
-    ensures locks { IfOk result (λ r. (opening_of (H.Gate.start r.0)).constants.locks ≡ lock_count program.now) }
+    ensures threads { IfOk result (λ r. (opening_of (H.Gate.start r.0)).constants.threads
+        ≡ thread_count program.now) }
+    ensures locks { IfOk result (λ r. (opening_of (H.Gate.start r.0)).constants.locks
+        ≡ lock_count program.now) }
     ensures empty { IfOk result (λ r. (opening_of (H.Gate.start r.0)).history ≡ []) }
     ensures callers { IfOk result (λ r. (opening_of (H.Gate.start r.0)).callers ≡ 2) }
-    ensures first { IfOk result (λ r. Owns (H.Gate.table r.0) (H.Gate.start r.0) r.1.seat × (known r.1 ≡ record { number = 0; seen = []; mine = []; left = 3 })) }
-    ensures second { IfOk result (λ r. Owns (H.Gate.table r.0) (H.Gate.start r.0) r.2.seat × (known r.2 ≡ record { number = 1; seen = []; mine = []; left = 3 })) }
+    ensures first { IfOk result (λ r. Owns (H.Gate.table r.0) (H.Gate.start r.0) r.1.seat
+        × (known r.1 ≡ record { number = 0; seen = []; mine = []; left = 3 })) }
+    ensures second { IfOk result (λ r. Owns (H.Gate.table r.0) (H.Gate.start r.0) r.2.seat
+        × (known r.2 ≡ record { number = 1; seen = []; mine = []; left = 3 })) }
     ensures list { IfOk result (λ r. (r.3.items ≡ []) × (2 ≤ vec_capacity r.3)) }
 {
     let gate = gate_for(alloc, program)?;
@@ -59,9 +63,11 @@ fn seat_of<G: Gate>(gate: &G, program: &Program, pass: Pass) -> Seat
     requires low { pass.number < thread_count program.now }
     requires caller { pass.number < (opening_of (G.start gate.now)).callers }
     requires empty { (opening_of (G.start gate.now)).history ≡ [] }
-    requires unasked { known pass ≡ record { number = pass.number; seen = []; mine = []; left = 3 } }
+    requires unasked { known pass
+        ≡ record { number = pass.number; seen = []; mine = []; left = 3 } }
     ensures pass { result.pass ≡ pass }
-    ensures seated { IsSeated program.now (opening_of (G.start gate.now)) result.machine (known result.pass) }
+    ensures seated { IsSeated program.now (opening_of (G.start gate.now)) result.machine
+        (known result.pass) }
 {
     let machine = Machine::new(program, Tid(pass.number()), 64);
     Seat { machine, pass }
@@ -75,7 +81,8 @@ fn finish<H: House>(
     mut passes: Vec<Pass>,
 ) -> GateState
     requires callers { (opening_of (H.Gate.start gate)).callers ≡ 2 }
-    requires owned { (i : ℕ) (d : _) → i < 2 → Owns (H.Gate.table gate) (H.Gate.start gate) (slice_index_or seats i d).pass.seat }
+    requires owned { (i : ℕ) (d : _) → i < 2
+        → Owns (H.Gate.table gate) (H.Gate.start gate) (slice_index_or seats i d).pass.seat }
     requires numbers { (i : ℕ) (d : _) → i < 2 → (slice_index_or seats i d).pass.number ≡ i }
     requires list { (passes.items ≡ []) × (2 ≤ vec_capacity passes) }
 {

@@ -59,7 +59,9 @@ fn fetch_texts<F: Files>(
 
 // The trace of a text.
 fn take_trace(alloc: Global, both: &Inputs, text: &Bytes) -> Result<KeptTrace, Stop>
-    ensures runs { (before : Named) → Runs (λ t. t) (spells both.now.program both.now.history.names text.now) before result (Some before) }
+    ensures runs { (before : Named)
+        → Runs (λ t. t) (spells both.now.program both.now.history.names text.now) before result
+        (Some before) }
     ensures trace { IfOk result (λ t. IsTrace both.now.program both.now.history.names t) }
     ensures faultless { IsFaultless result }
     ensures words { HasWords result }
@@ -73,7 +75,8 @@ fn take_trace(alloc: Global, both: &Inputs, text: &Bytes) -> Result<KeptTrace, S
 
 // Reads the texts.
 fn take_given(alloc: Global, texts: &Texts) -> Result<Given, Stop>
-    ensures runs { (before : Named) → Runs given_of (takes_given texts.now) before result (Some before) }
+    ensures runs { (before : Named)
+        → Runs given_of (takes_given texts.now) before result (Some before) }
     ensures few { IfOk result (λ g. length g.both.history.catalogue.sigs ≤ 4080) }
     ensures trace { IfOk result (λ g. IsTrace g.both.program g.both.history.names g.trace) }
     ensures faultless { IsFaultless result }
@@ -100,7 +103,8 @@ fn checked(alloc: Global, entries: u32) -> Result<Report, OutOfMemory>
 fn judge(alloc: Global, given: &Given) -> Result<Report, Stop>
     requires few { length given.now.both.history.catalogue.sigs ≤ 4080 }
     requires trace { IsTrace given.now.both.program given.now.both.history.names given.now.trace }
-    ensures runs { (before : Named) → Runs (λ r. r) (judges (given_of given.now)) before result (Some before) }
+    ensures runs { (before : Named)
+        → Runs (λ r. r) (judges (given_of given.now)) before result (Some before) }
     ensures faultless { IsFaultless result }
     ensures words { HasWords result }
 {

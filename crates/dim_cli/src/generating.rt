@@ -29,7 +29,9 @@ fn next(words: &mut Pcg32) -> u32
 
 // Appends a line of a word and of a name: a letter, and the two digits of a number.
 fn put_naming(text: &mut String, word: &str, letter: &str, number: u32) -> Result<(), AllocError>
-    ensures { OnOk result (string_bytes text.new ≡ string_bytes text.old ++ ended (line_of (word.now ∷ numbered letter.now number ∷ []))) }
+    ensures { OnOk result
+        (string_bytes text.new
+        ≡ string_bytes text.old ++ ended (line_of (word.now ∷ numbered letter.now number ∷ []))) }
 {
     let tens = number / 10;
     let ones = number % 10;
@@ -45,7 +47,9 @@ fn put_lines(text: &mut String, lines: &str) -> Result<(), AllocError>
 
 // Appends the first line of a function with such a name.
 fn put_head(text: &mut String, letter: &str, number: u32, locals: u32) -> Result<(), AllocError>
-    ensures { OnOk result (string_bytes text.new ≡ string_bytes text.old ++ ended (spelled (FuncLine (numbered letter.now number) locals))) }
+    ensures { OnOk result
+        (string_bytes text.new
+        ≡ string_bytes text.old ++ ended (spelled (FuncLine (numbered letter.now number) locals))) }
 {
     let tens = number / 10;
     let ones = number % 10;
@@ -53,7 +57,10 @@ fn put_head(text: &mut String, letter: &str, number: u32, locals: u32) -> Result
 }
 
 fn put_locks(text: &mut String) -> Result<(), AllocError>
-    ensures { OnOk result (string_bytes text.new ≡ string_bytes text.old ++ text_of (map (λ name. LockLine name) (map lock_name (from 0 16)))) }
+    ensures { OnOk result
+        (string_bytes text.new
+        ≡ string_bytes text.old ++ text_of
+        (map (λ name. LockLine name) (map lock_name (from 0 16)))) }
 {
     for number in 0..16 {
         put_naming(text, "lock", "l", number)?;
@@ -63,7 +70,9 @@ fn put_locks(text: &mut String) -> Result<(), AllocError>
 
 // Appends the lines of a function that takes two locks, and frees them.
 fn put_taker(text: &mut String, number: u32, x: u32, y: u32) -> Result<(), AllocError>
-    ensures { OnOk result (string_bytes text.new ≡ string_bytes text.old ++ text_of (function_lines (taker_draft number x y))) }
+    ensures { OnOk result
+        (string_bytes text.new
+        ≡ string_bytes text.old ++ text_of (function_lines (taker_draft number x y))) }
 {
     put_head(text, "f", number, 0)?;
     put_naming(text, "LOCK", "l", x)?;
@@ -75,7 +84,10 @@ fn put_taker(text: &mut String, number: u32, x: u32, y: u32) -> Result<(), Alloc
 
 // Appends the functions that take two locks. Two words draw the locks of each.
 fn put_takers(text: &mut String, words: &mut Pcg32) -> Result<(), AllocError>
-    ensures lines { OnOk result (string_bytes text.new ≡ string_bytes text.old ++ text_of (flat_map function_lines (map (taker_of words.old) (from 0 32)))) }
+    ensures lines { OnOk result
+        (string_bytes text.new
+        ≡ string_bytes text.old ++ text_of
+        (flat_map function_lines (map (taker_of words.old) (from 0 32)))) }
     ensures left { OnOk result (words.new ≡ after 64 words.old) }
 {
     for number in 0..32 {
@@ -88,7 +100,9 @@ fn put_takers(text: &mut String, words: &mut Pcg32) -> Result<(), AllocError>
 
 // Appends the calls of four functions.
 fn put_calls(text: &mut String, a: u32, b: u32, c: u32, d: u32) -> Result<(), AllocError>
-    ensures { OnOk result (string_bytes text.new ≡ string_bytes text.old ++ text_of (map (λ f. OpLine (called f)) (a ∷ b ∷ c ∷ d ∷ []))) }
+    ensures { OnOk result
+        (string_bytes text.new
+        ≡ string_bytes text.old ++ text_of (map (λ f. OpLine (called f)) (a ∷ b ∷ c ∷ d ∷ []))) }
 {
     put_naming(text, "CALL", "f", a)?;
     put_naming(text, "CALL", "f", b)?;
@@ -105,7 +119,9 @@ fn put_caller(
     c: u32,
     d: u32,
 ) -> Result<(), AllocError>
-    ensures { OnOk result (string_bytes text.new ≡ string_bytes text.old ++ text_of (function_lines (caller_draft number a b c d))) }
+    ensures { OnOk result
+        (string_bytes text.new
+        ≡ string_bytes text.old ++ text_of (function_lines (caller_draft number a b c d))) }
 {
     put_head(text, "m", number, 1)?;
     put_lines(text, "PUTL 0\nGETL 0\nJZ 12\n")?;
@@ -115,7 +131,10 @@ fn put_caller(
 
 // Appends the functions that call others. Four words draw which ones each calls.
 fn put_callers(text: &mut String, words: &mut Pcg32) -> Result<(), AllocError>
-    ensures { OnOk result (string_bytes text.new ≡ string_bytes text.old ++ text_of (flat_map function_lines (map (caller_of words.old) (from 0 16)))) }
+    ensures { OnOk result
+        (string_bytes text.new
+        ≡ string_bytes text.old ++ text_of
+        (flat_map function_lines (map (caller_of words.old) (from 0 16)))) }
 {
     for number in 0..16 {
         let a = next(words) % 32;
@@ -129,7 +148,10 @@ fn put_callers(text: &mut String, words: &mut Pcg32) -> Result<(), AllocError>
 
 // Appends the line of a thread.
 fn put_thread(text: &mut String, number: u32, argument: i64) -> Result<(), AllocError>
-    ensures { OnOk result (string_bytes text.new ≡ string_bytes text.old ++ ended (spelled (ThreadLine (numbered (codes "m") number) argument))) }
+    ensures { OnOk result
+        (string_bytes text.new
+        ≡ string_bytes text.old ++ ended
+        (spelled (ThreadLine (numbered (codes "m") number) argument))) }
 {
     let tens = number / 10;
     let ones = number % 10;
@@ -137,7 +159,9 @@ fn put_thread(text: &mut String, number: u32, argument: i64) -> Result<(), Alloc
 }
 
 fn put_threads(text: &mut String) -> Result<(), AllocError>
-    ensures { OnOk result (string_bytes text.new ≡ string_bytes text.old ++ text_of (map thread_line (map started (from 0 16)))) }
+    ensures { OnOk result
+        (string_bytes text.new
+        ≡ string_bytes text.old ++ text_of (map thread_line (map started (from 0 16)))) }
 {
     for number in 0..16 {
         put_thread(text, number, 100)?;
@@ -147,7 +171,12 @@ fn put_threads(text: &mut String) -> Result<(), AllocError>
 
 // Appends what stands between the first line and the last.
 fn put_all(text: &mut String, words: &mut Pcg32) -> Result<(), AllocError>
-    ensures { OnOk result (string_bytes text.new ≡ string_bytes text.old ++ (text_of (map (λ name. LockLine name) (generated_source words.old).locks) ++ (text_of (flat_map function_lines (generated_source words.old).funcs) ++ text_of (map thread_line (generated_source words.old).threads)))) }
+    ensures { OnOk result
+        (string_bytes text.new
+        ≡ string_bytes text.old
+        ++ (text_of (map (λ name. LockLine name) (generated_source words.old).locks)
+        ++ (text_of (flat_map function_lines (generated_source words.old).funcs) ++ text_of
+        (map thread_line (generated_source words.old).threads)))) }
 {
     put_locks(text)?;
     put_takers(text, words)?;
@@ -163,7 +192,8 @@ fn words_of(n: u32) -> Pcg32
 }
 
 fn whole_text(alloc: Global, n: u32) -> Result<String, AllocError>
-    ensures { IfOk result (λ text. string_bytes text ≡ source_text (generated_source (generator n))) }
+    ensures { IfOk result
+        (λ text. string_bytes text ≡ source_text (generated_source (generator n))) }
 {
     let mut words = words_of(n);
     let mut text = String::from_str(alloc, "dim program 1\n")?;
@@ -177,7 +207,8 @@ fn whole_text(alloc: Global, n: u32) -> Result<String, AllocError>
 /// Which locks and which functions these are is drawn from the words of the generator `Pcg32` made by the number: docs/formats.md. The text is a program's.
 pub fn generated(alloc: Global, n: u32) -> Result<Bytes, OutOfMemory>
     ensures text { IfOk result (λ bytes. bytes ≡ program_text (generated_program n)) }
-    ensures program { program_of (program_text (generated_program n)) ≡ Ok (bound (own_names (generated_program n)) (generated_program n)) }
+    ensures program { program_of (program_text (generated_program n))
+        ≡ Ok (bound (own_names (generated_program n)) (generated_program n)) }
 {
     let text = whole_text(alloc, n)?;
     Ok(Bytes::from_vec(text.into_bytes()))

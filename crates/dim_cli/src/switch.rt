@@ -17,7 +17,8 @@ use std::alloc::Global;
 
 // Refuses a number that no signature of the history has.
 fn check_number(history: &History, index: u32) -> Result<(), Stop>
-    ensures runs { (before : Named) → Runs (λ u. u) (numbers (value_of history.now) index) before result (Some before) }
+    ensures runs { (before : Named)
+        → Runs (λ u. u) (numbers (value_of history.now) index) before result (Some before) }
     ensures faultless { IsFaultless result }
     ensures words { HasWords result }
     ensures there { OnOk result (index < length history.now.catalogue.sigs) }
@@ -31,7 +32,9 @@ fn check_number(history: &History, index: u32) -> Result<(), Stop>
 
 // The history of a text, with one signature in another state.
 fn read_switched(alloc: Global, bytes: &Bytes, command: &SwitchCommand<'_>) -> Result<History, Stop>
-    ensures runs { (before : Named) → Runs value_of (switches (switch_words command.now) bytes.now) before result (Some before) }
+    ensures runs { (before : Named)
+        → Runs value_of (switches (switch_words command.now) bytes.now) before result
+        (Some before) }
     ensures faultless { IsFaultless result }
     ensures words { HasWords result }
 {

@@ -38,7 +38,8 @@ pub fn new_gate(
 
 /// The machine of each thread at its start, with so much fuel.
 pub fn machines_of(alloc: Global, program: &Program, fuel: u32) -> Result<Vec<Machine>, OutOfMemory>
-    ensures { IfOk result (λ machines. machines.items ≡ starts program.now fuel (thread_count program.now)) }
+    ensures { IfOk result
+        (λ machines. machines.items ≡ starts program.now fuel (thread_count program.now)) }
 {
     let mut machines = Vec::new(alloc);
     for t in 0..program.threads() {

@@ -55,7 +55,9 @@ impl Graph {
         requires some { 1 ≤ threads }
         requires few { threads ≤ 32 }
         requires few_locks { locks ≤ 256 }
-        ensures { IfOk result (λ graph. graph ≡ record { threads = threads; locks = locks; entries = []; spare = 0 }) }
+        ensures { IfOk result
+            (λ graph. graph
+            ≡ record { threads = threads; locks = locks; entries = []; spare = 0 }) }
     {
         let rows = idle_rows(alloc, threads)?;
         let holders = free_holders(alloc, locks)?;
@@ -82,7 +84,9 @@ impl Graph {
         requires room { 1 ≤ self.old.spare }
         requires in_range { IsInRange self.old.threads self.old.locks e.now }
         requires fits { FitsAfter (past self.old.entries) e.now }
-        ensures { self.new ≡ record self.old { entries = self.old.entries ++ e.now ∷ []; spare = self.old.spare - 1 } }
+        ensures { self.new
+            ≡ record self.old
+            { entries = self.old.entries ++ e.now ∷ []; spare = self.old.spare - 1 } }
     {
         let place = self.told.len();
         replay(&mut self.rows, &mut self.holders, e, place);
@@ -131,9 +135,11 @@ impl Graph {
     /// The allow edge of a thread, which has at most one; none exactly where it has none on any lock.
     pub fn allow_of(&self, t: Tid) -> Option<Edge>
         requires { t.0 < self.now.threads }
-        ensures some { IfSome result (λ e. (e.t ≡ t) × (allow t.0 e.l.0 (past self.now.entries) ≡ Some e)) }
+        ensures some { IfSome result
+            (λ e. (e.t ≡ t) × (allow t.0 e.l.0 (past self.now.entries) ≡ Some e)) }
         ensures none { IfNone result ((l : ℕ) → allow t.0 l (past self.now.entries) ≡ None) }
-        ensures each { (l : ℕ) (x : Edge) → allow t.0 l (past self.now.entries) ≡ Some x → result ≡ Some x }
+        ensures each { (l : ℕ) (x : Edge) → allow t.0 l (past self.now.entries) ≡ Some x
+            → result ≡ Some x }
     {
         self.rows[t.0 as usize].allow_edge(t)
     }
@@ -145,7 +151,8 @@ impl Graph {
         ensures some { IfSome result (λ e. hold e.t.0 l.0 (past self.now.entries) ≡ Some e) }
         ensures none { IfNone result ((t : ℕ) → hold t l.0 (past self.now.entries) ≡ None) }
         ensures all { (t : ℕ) → hold t l.0 (past self.now.entries) ≡ held_by t result }
-        ensures each { (t : ℕ) (x : Edge) → hold t l.0 (past self.now.entries) ≡ Some x → result ≡ Some x }
+        ensures each { (t : ℕ) (x : Edge) → hold t l.0 (past self.now.entries) ≡ Some x
+            → result ≡ Some x }
         ensures thread { IfSome result (λ e. e.t.0 < self.now.threads) }
     {
         self.holders[l.0 as usize]
@@ -154,7 +161,8 @@ impl Graph {
     /// The thread that holds a lock; none exactly where no thread does. It copies no edge.
     pub fn owner(&self, l: Lid) -> Option<Tid>
         requires { l.0 < self.now.locks }
-        ensures { result ≡ option_map (λ (e : Edge). e.t) (holder self.now.threads l.0 (past self.now.entries)) }
+        ensures { result
+            ≡ option_map (λ (e : Edge). e.t) (holder self.now.threads l.0 (past self.now.entries)) }
     {
         owner_of(&self.holders[l.0 as usize])
     }
@@ -162,7 +170,8 @@ impl Graph {
     /// The birth of the hold edge of a thread on a lock; none exactly where the thread doesn't hold it. It copies no edge.
     pub fn hold_birth(&self, t: Tid, l: Lid) -> Option<u32>
         requires { l.0 < self.now.locks }
-        ensures { result ≡ option_map (λ (e : Edge). e.birth) (hold t.0 l.0 (past self.now.entries)) }
+        ensures { result
+            ≡ option_map (λ (e : Edge). e.birth) (hold t.0 l.0 (past self.now.entries)) }
     {
         birth_held_by(t, &self.holders[l.0 as usize])
     }

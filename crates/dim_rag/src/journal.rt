@@ -56,7 +56,8 @@ impl Journal {
     /// Where memory runs out, all is as before.
     pub fn reserve(&mut self, entries: u32) -> Result<(), OutOfMemory>
         requires { length self.old.entries + entries < 2 ^ 32 }
-        ensures ok { OnOk result (self.new ≡ record self.old { spare = max self.old.spare entries }) }
+        ensures ok { OnOk result
+            (self.new ≡ record self.old { spare = max self.old.spare entries }) }
         ensures err { OnErr result (self.new ≡ self.old) }
     {
         if entries <= self.spare {
@@ -72,7 +73,9 @@ impl Journal {
     /// Appends an entry, in the room that there is.
     pub fn push(&mut self, e: &Entry)
         requires { 1 ≤ self.old.spare }
-        ensures { self.new ≡ record self.old { entries = self.old.entries ++ e.now ∷ []; spare = self.old.spare - 1 } }
+        ensures { self.new
+            ≡ record self.old
+            { entries = self.old.entries ++ e.now ∷ []; spare = self.old.spare - 1 } }
     {
         let brief = brief_of(&mut self.frames, &mut self.births, e);
         self.briefs.push_reserved(brief);

@@ -51,7 +51,9 @@ impl Tables {
         requires some { 1 ≤ threads }
         requires few { threads ≤ 32 }
         requires few_locks { locks ≤ 256 }
-        ensures { IfOk result (λ tables. tables ≡ record { threads = threads; locks = locks; entries = []; spare = 0 }) }
+        ensures { IfOk result
+            (λ tables. tables
+            ≡ record { threads = threads; locks = locks; entries = []; spare = 0 }) }
     {
         let graph = Graph::new(alloc, threads, locks)?;
         let journal = Journal::new(alloc);
@@ -63,7 +65,8 @@ impl Tables {
     /// Where memory runs out, all is as before.
     pub fn reserve(&mut self, entries: u32) -> Result<(), OutOfMemory>
         requires { length self.old.entries + entries < 2 ^ 32 }
-        ensures ok { OnOk result (self.new ≡ record self.old { spare = max self.old.spare entries }) }
+        ensures ok { OnOk result
+            (self.new ≡ record self.old { spare = max self.old.spare entries }) }
         ensures err { OnErr result (self.new ≡ self.old) }
     {
         self.journal.reserve(entries)?;
@@ -76,7 +79,8 @@ impl Tables {
         requires room { 1 ≤ self.old.spare }
         requires in_range { IsInRange self.old.threads self.old.locks e }
         requires fits { FitsAfter (past self.old.entries) e }
-        ensures { self.new ≡ record self.old { entries = self.old.entries ++ e ∷ []; spare = self.old.spare - 1 } }
+        ensures { self.new
+            ≡ record self.old { entries = self.old.entries ++ e ∷ []; spare = self.old.spare - 1 } }
     {
         self.enter(&e);
     }
@@ -86,7 +90,9 @@ impl Tables {
         requires room { 1 ≤ self.old.spare }
         requires in_range { IsInRange self.old.threads self.old.locks e.now }
         requires fits { FitsAfter (past self.old.entries) e.now }
-        ensures { self.new ≡ record self.old { entries = self.old.entries ++ e.now ∷ []; spare = self.old.spare - 1 } }
+        ensures { self.new
+            ≡ record self.old
+            { entries = self.old.entries ++ e.now ∷ []; spare = self.old.spare - 1 } }
     {
         self.graph.enter(e);
         self.journal.push(e);
@@ -172,9 +178,11 @@ impl Tables {
     /// The allow edge of a thread, which has at most one; none exactly where it has none on any lock.
     pub fn allow_of(&self, t: Tid) -> Option<Edge>
         requires { t.0 < self.now.threads }
-        ensures some { IfSome result (λ e. (e.t ≡ t) × (allow t.0 e.l.0 (past self.now.entries) ≡ Some e)) }
+        ensures some { IfSome result
+            (λ e. (e.t ≡ t) × (allow t.0 e.l.0 (past self.now.entries) ≡ Some e)) }
         ensures none { IfNone result ((l : ℕ) → allow t.0 l (past self.now.entries) ≡ None) }
-        ensures each { (l : ℕ) (x : Edge) → allow t.0 l (past self.now.entries) ≡ Some x → result ≡ Some x }
+        ensures each { (l : ℕ) (x : Edge) → allow t.0 l (past self.now.entries) ≡ Some x
+            → result ≡ Some x }
     {
         self.graph.allow_of(t)
     }
@@ -186,7 +194,8 @@ impl Tables {
         ensures some { IfSome result (λ e. hold e.t.0 l.0 (past self.now.entries) ≡ Some e) }
         ensures none { IfNone result ((t : ℕ) → hold t l.0 (past self.now.entries) ≡ None) }
         ensures all { (t : ℕ) → hold t l.0 (past self.now.entries) ≡ held_by t result }
-        ensures each { (t : ℕ) (x : Edge) → hold t l.0 (past self.now.entries) ≡ Some x → result ≡ Some x }
+        ensures each { (t : ℕ) (x : Edge) → hold t l.0 (past self.now.entries) ≡ Some x
+            → result ≡ Some x }
         ensures thread { IfSome result (λ e. e.t.0 < self.now.threads) }
     {
         self.graph.holder(l)
@@ -195,7 +204,8 @@ impl Tables {
     /// The thread that holds a lock; none exactly where no thread does. It copies no edge.
     pub fn owner(&self, l: Lid) -> Option<Tid>
         requires { l.0 < self.now.locks }
-        ensures { result ≡ option_map (λ (e : Edge). e.t) (holder self.now.threads l.0 (past self.now.entries)) }
+        ensures { result
+            ≡ option_map (λ (e : Edge). e.t) (holder self.now.threads l.0 (past self.now.entries)) }
     {
         self.graph.owner(l)
     }
@@ -203,7 +213,8 @@ impl Tables {
     /// The birth of the hold edge of a thread on a lock; none exactly where the thread doesn't hold it. It copies no edge.
     pub fn hold_birth(&self, t: Tid, l: Lid) -> Option<u32>
         requires { l.0 < self.now.locks }
-        ensures { result ≡ option_map (λ (e : Edge). e.birth) (hold t.0 l.0 (past self.now.entries)) }
+        ensures { result
+            ≡ option_map (λ (e : Edge). e.birth) (hold t.0 l.0 (past self.now.entries)) }
     {
         self.graph.hold_birth(t, l)
     }
@@ -219,7 +230,9 @@ impl Tables {
     /// Whether an entry may come next: its thread and its lock, where it has them, are in range, and the mode of
     /// its thread and the holder of its lock allow it.
     pub fn fits(&self, e: &Entry) -> bool
-        ensures { IsTrue result ↔ (IsInRange self.now.threads self.now.locks e.now × FitsAfter (past self.now.entries) e.now) }
+        ensures { IsTrue result
+            ↔ (IsInRange self.now.threads self.now.locks e.now
+            × FitsAfter (past self.now.entries) e.now) }
     {
         self.graph.fits(e)
     }
@@ -227,7 +240,8 @@ impl Tables {
     /// Whether a thread runs, or yields on this lock with this stack.
     pub fn may_ask(&self, t: Tid, l: Lid, stack: &Stack) -> bool
         requires { t.0 < self.now.threads }
-        ensures value { result ≡ may_ask l stack.now (mode t.0 (past self.now.entries)) (latest_wish t.0 (past self.now.entries)) }
+        ensures value { result ≡ may_ask l stack.now (mode t.0 (past self.now.entries))
+            (latest_wish t.0 (past self.now.entries)) }
         ensures ready { IsTrue result → IsReady t.0 l stack.now (past self.now.entries) }
         ensures always { IsReady t.0 l stack.now (past self.now.entries) → IsTrue result }
     {
@@ -239,8 +253,10 @@ impl Tables {
     /// It looks at each thread and then at each lock, so it costs the same at any length.
     pub fn edge_born(&self, birth: u32) -> Option<Edge>
         ensures some { IfSome result (λ e. IsEdge (past self.now.entries) e × (e.birth ≡ birth)) }
-        ensures each { (e : Edge) → IsEdge (past self.now.entries) e → e.birth ≡ birth → result ≡ Some e }
-        ensures in_range { IfSome result (λ e. (e.t.0 < self.now.threads) × (e.l.0 < self.now.locks)) }
+        ensures each { (e : Edge) → IsEdge (past self.now.entries) e → e.birth ≡ birth
+            → result ≡ Some e }
+        ensures in_range { IfSome result (λ e. (e.t.0 < self.now.threads)
+            × (e.l.0 < self.now.locks)) }
     {
         self.graph.edge_born(birth)
     }
@@ -261,7 +277,11 @@ impl Tables {
     /// hold edge with the next birth, and, for `i` above 0, has a greater number than the owner at position 0.
     /// Behind the last position comes the first. A list shorter than 2 fails at 0.
     pub fn is_cycle(&self, births: &Births) -> Result<(), u32>
-        ensures { MatchResult result (λ done. cycle_fault self.now.threads self.now.locks (past self.now.entries) births.now ≡ None) (λ i. cycle_fault self.now.threads self.now.locks (past self.now.entries) births.now ≡ Some i) }
+        ensures { MatchResult result
+            (λ done. cycle_fault self.now.threads self.now.locks (past self.now.entries) births.now
+            ≡ None)
+            (λ i. cycle_fault self.now.threads self.now.locks (past self.now.entries) births.now
+            ≡ Some i) }
     {
         self.graph.is_cycle(births)
     }
@@ -277,7 +297,8 @@ impl Tables {
 
     /// The hold edge with a birth; none exactly where no lock has one.
     pub fn held_at(&self, place: u32) -> Option<Edge>
-        ensures value { result ≡ held_at self.now.threads self.now.locks (past self.now.entries) place }
+        ensures value { result ≡ held_at self.now.threads self.now.locks (past self.now.entries)
+            place }
         ensures thread { IfSome result (λ e. e.t.0 < self.now.threads) }
     {
         self.graph.held_at(place)
@@ -288,8 +309,12 @@ impl Tables {
     /// A member may be one where it has ended, or is allowed on a lock that a member holds, or yields with
     /// causes that all stand and whose owners are all members.
     pub fn is_stuck(&self, set: u32) -> Result<(), Tid>
-        ensures reading { MatchResult result (λ done. IsStuck self.now.threads self.now.locks (past self.now.entries) set) (λ t. IsFirstFree self.now.threads self.now.locks (past self.now.entries) set t.0) }
-        ensures value { MatchResult result (λ done. stale self.now.threads self.now.locks (past self.now.entries) set ≡ None) (λ t. stale self.now.threads self.now.locks (past self.now.entries) set ≡ Some t.0) }
+        ensures reading { MatchResult result
+            (λ done. IsStuck self.now.threads self.now.locks (past self.now.entries) set)
+            (λ t. IsFirstFree self.now.threads self.now.locks (past self.now.entries) set t.0) }
+        ensures value { MatchResult result
+            (λ done. stale self.now.threads self.now.locks (past self.now.entries) set ≡ None)
+            (λ t. stale self.now.threads self.now.locks (past self.now.entries) set ≡ Some t.0) }
     {
         self.graph.is_stuck(set)
     }
@@ -298,7 +323,8 @@ impl Tables {
     ///
     /// None exactly where no member yields.
     pub fn choice(&self, set: u32) -> Option<Tid>
-        ensures { option_map (λ (t : Tid). t.0) result ≡ choice set self.now.locks (past self.now.entries) self.now.threads }
+        ensures { option_map (λ (t : Tid). t.0) result
+            ≡ choice set self.now.locks (past self.now.entries) self.now.threads }
     {
         self.graph.choice(set)
     }

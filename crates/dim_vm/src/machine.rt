@@ -99,14 +99,16 @@ impl Machine {
         // the moves, of which `result.moves` is the number, and the End, if there is one
         ensures made { IsSlice program.now self.old (D.seen door.old) q result.moves self.new (D.seen door.new)
             (D.stopped door.new) (D.woken door.new) }
-        ensures stops { ((D.seen door.new).stops ≡ (D.seen door.old).stops) ⊎ (WasStopped (D.seen door.old) (D.seen door.new) × (result.moves < q)) }
+        ensures stops { ((D.seen door.new).stops ≡ (D.seen door.old).stops)
+            ⊎ (WasStopped (D.seen door.old) (D.seen door.new) × (result.moves < q)) }
         ensures fits { FitsMachine program.now self.new (D.seen door.new).own }
         ensures state { result.state ≡ self.new.state }
         ensures by_own { result.state ≡ state_by (past (D.seen door.new).own) }
 
         // what stays
         ensures fuel { self.new.fuel ≡ self.old.fuel }
-        ensures thread { ((D.seen door.new).thread ≡ (D.seen door.old).thread) × ((D.seen door.new).thread ≡ self.new.thread) }
+        ensures thread { ((D.seen door.new).thread ≡ (D.seen door.old).thread)
+            × ((D.seen door.new).thread ≡ self.new.thread) }
         ensures locks { (D.seen door.new).locks ≡ (D.seen door.old).locks }
         ensures left { (D.seen door.old).left ≤ (D.seen door.new).left + result.moves + 1 }
         ensures reaches { D.reaches door.old door.new }

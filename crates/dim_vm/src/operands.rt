@@ -159,7 +159,8 @@ impl Operands {
 
     /// SUB.
     pub fn subtract(&mut self) -> Result<(), Trap>
-        ensures { Leaves (operands.calculate operands.difference self.old) self.old result self.new }
+        ensures { Leaves (operands.calculate operands.difference self.old) self.old result
+            self.new }
     {
         let (a, b) = self.pair()?;
         let Some(n) = a.checked_sub(b) else {

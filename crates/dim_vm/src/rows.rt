@@ -35,8 +35,10 @@ impl Context {
     fn row_here(&mut self, program: &Program, holds: &[bool]) -> Result<Step, Trap>
         requires said { self.old.said < 2 ^ 63 }
         requires holds { length holds.now ≡ 256 }
-        ensures row { IsRow self.old (table.row_here program.now holds.now self.old) result self.new }
-        ensures found { IfOk result (λ s. IsFound program.now holds.now self.old (told_by self.old s self.new)) }
+        ensures row { IsRow self.old (table.row_here program.now holds.now self.old) result
+            self.new }
+        ensures found { IfOk result
+            (λ s. IsFound program.now holds.now self.old (told_by self.old s self.new)) }
     {
         let frame = self.frames.top();
         match program.op(frame.func, frame.at) {

@@ -15,8 +15,10 @@ pub fn call_stack() -> Stack {
 
 /// A caller's command at this step: by turns it asks for the lock with its own number, takes it, and frees it.
 pub fn command(caller: u32, step: u32, stack: &Stack) -> Command
-    ensures may { (c : Constants) → caller < c.threads → caller < c.locks → MayGive c caller result }
-    ensures allowed { (c : Constants) → caller < c.threads → caller < c.locks → may_give c caller result ≡ true }
+    ensures may { (c : Constants) → caller < c.threads → caller < c.locks
+        → MayGive c caller result }
+    ensures allowed { (c : Constants) → caller < c.threads → caller < c.locks
+        → may_give c caller result ≡ true }
 {
     let l = Lid(caller);
     match step % 3 {

@@ -20,9 +20,12 @@ pub fn begin(
 ) -> Result<(Turn<GateState>, Vec<Pass<GateState>>), OutOfMemory>
     requires some { 1 ≤ callers }
     requires few { (callers ≤ 4) × (steps ≤ 150000) }
-    ensures sizes { IfOk result (λ r. ((start_of r.0).book.value.threads ≡ 4) × ((start_of r.0).book.value.locks ≡ 4)) }
-    ensures counts { IfOk result (λ r. ((start_of r.0).callers ≡ callers) × ((start_of r.0).allowance ≡ steps) × (length r.1.items ≡ callers)) }
-    ensures dealt { IfOk result (λ r. (i : ℕ) (p : _) → slice_get r.1.items i ≡ Some p → IsDealt r.0 i p) }
+    ensures sizes { IfOk result (λ r. ((start_of r.0).book.value.threads ≡ 4)
+        × ((start_of r.0).book.value.locks ≡ 4)) }
+    ensures counts { IfOk result (λ r. ((start_of r.0).callers ≡ callers)
+        × ((start_of r.0).allowance ≡ steps) × (length r.1.items ≡ callers)) }
+    ensures dealt { IfOk result (λ r. (i : ℕ) (p : _) → slice_get r.1.items i ≡ Some p
+        → IsDealt r.0 i p) }
 {
     let gate = new_gate(alloc, callers * steps)?;
     match Turn::start(alloc, gate, callers, steps) {
@@ -76,7 +79,9 @@ pub fn play_by_turns<R: Threads + Wait + Sync>(
     requires lock { All (λ p. p.number < (start_of turn.now).book.value.locks) passes.old }
     requires left { All (λ p. steps ≤ p.left) passes.old }
     ensures same { length passes.new ≡ length passes.old }
-    ensures each { (i : ℕ) (d : _) → i < length passes.old → IsPassOf turn.now (slice_index_or passes.new i d) × ((slice_index_or passes.new i d).number ≡ (slice_index_or passes.old i d).number) }
+    ensures each { (i : ℕ) (d : _) → i < length passes.old
+        → IsPassOf turn.now (slice_index_or passes.new i d)
+        × ((slice_index_or passes.new i d).number ≡ (slice_index_or passes.old i d).number) }
 {
     for_each_mut(rt, passes, 4, &|_, pass| play(rt, turn, pass, steps));
 }

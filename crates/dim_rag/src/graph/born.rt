@@ -14,8 +14,10 @@ impl Graph {
     /// It looks at each thread and then at each lock, so it costs the same at any length.
     pub fn edge_born(&self, birth: u32) -> Option<Edge>
         ensures some { IfSome result (λ e. IsEdge (past self.now.entries) e × (e.birth ≡ birth)) }
-        ensures each { (e : Edge) → IsEdge (past self.now.entries) e → e.birth ≡ birth → result ≡ Some e }
-        ensures in_range { IfSome result (λ e. (e.t.0 < self.now.threads) × (e.l.0 < self.now.locks)) }
+        ensures each { (e : Edge) → IsEdge (past self.now.entries) e → e.birth ≡ birth
+            → result ≡ Some e }
+        ensures in_range { IfSome result (λ e. (e.t.0 < self.now.threads)
+            × (e.l.0 < self.now.locks)) }
     {
         // For the contract: edges are in range.
         let _in_range = self.locks();
@@ -28,7 +30,8 @@ impl Graph {
     /// The allow edge with this birth.
     fn any_allow_born(&self, birth: u32) -> Option<Edge>
         ensures some { IfSome result (λ e. IsEdge (past self.now.entries) e × (e.birth ≡ birth)) }
-        ensures each { (t l : ℕ) (e : Edge) → allow t l (past self.now.entries) ≡ Some e → e.birth ≡ birth → result ≡ Some e }
+        ensures each { (t l : ℕ) (e : Edge) → allow t l (past self.now.entries) ≡ Some e
+            → e.birth ≡ birth → result ≡ Some e }
     {
         let _in_range = self.locks();
         for t in 0..self.threads() {
@@ -43,7 +46,8 @@ impl Graph {
     fn allow_born(&self, t: Tid, birth: u32) -> Option<Edge>
         requires { t.0 < self.now.threads }
         ensures some { IfSome result (λ e. IsEdge (past self.now.entries) e × (e.birth ≡ birth)) }
-        ensures each { (l : ℕ) (e : Edge) → allow t.0 l (past self.now.entries) ≡ Some e → e.birth ≡ birth → result ≡ Some e }
+        ensures each { (l : ℕ) (e : Edge) → allow t.0 l (past self.now.entries) ≡ Some e
+            → e.birth ≡ birth → result ≡ Some e }
     {
         self.rows[t.0 as usize].allow_born(t, birth)
     }
@@ -51,7 +55,8 @@ impl Graph {
     /// The hold edge with this birth.
     fn any_hold_born(&self, birth: u32) -> Option<Edge>
         ensures some { IfSome result (λ e. IsEdge (past self.now.entries) e × (e.birth ≡ birth)) }
-        ensures each { (t l : ℕ) (e : Edge) → hold t l (past self.now.entries) ≡ Some e → e.birth ≡ birth → result ≡ Some e }
+        ensures each { (t l : ℕ) (e : Edge) → hold t l (past self.now.entries) ≡ Some e
+            → e.birth ≡ birth → result ≡ Some e }
     {
         for l in 0..self.locks() {
             if let Some(e) = self.hold_born(Lid(l), birth) {
@@ -65,7 +70,8 @@ impl Graph {
     fn hold_born(&self, l: Lid, birth: u32) -> Option<Edge>
         requires { l.0 < self.now.locks }
         ensures some { IfSome result (λ e. IsEdge (past self.now.entries) e × (e.birth ≡ birth)) }
-        ensures each { (t : ℕ) (e : Edge) → hold t l.0 (past self.now.entries) ≡ Some e → e.birth ≡ birth → result ≡ Some e }
+        ensures each { (t : ℕ) (e : Edge) → hold t l.0 (past self.now.entries) ≡ Some e
+            → e.birth ≡ birth → result ≡ Some e }
     {
         if_born(birth, &self.holders[l.0 as usize])
     }

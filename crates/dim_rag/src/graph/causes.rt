@@ -32,7 +32,9 @@ impl Graph {
     /// The same where only the edges of the members of a set count.
     pub(crate) fn standing_in(&self, set: u32, t: Tid) -> Option<u32>
         requires { t.0 < self.now.threads }
-        ensures { result ≡ standing_in (edges_in set self.now.threads self.now.locks (past self.now.entries)) (mode t.0 (past self.now.entries)) (latest_wish t.0 (past self.now.entries)) }
+        ensures { result
+            ≡ standing_in (edges_in set self.now.threads self.now.locks (past self.now.entries))
+            (mode t.0 (past self.now.entries)) (latest_wish t.0 (past self.now.entries)) }
     {
         let row = &self.rows[t.0 as usize];
         match row.mode {
@@ -43,7 +45,9 @@ impl Graph {
 
     /// The first of the births other than a place, if there is one and all of these are births of edges of members.
     fn first_cause(&self, set: u32, births: &Births, place: u32) -> Option<u32>
-        ensures { result ≡ standing_by (edges_in set self.now.threads self.now.locks (past self.now.entries)) (causes place births.now) }
+        ensures { result
+            ≡ standing_by (edges_in set self.now.threads self.now.locks (past self.now.entries))
+            (causes place births.now) }
     {
         let mut first = None;
         for i in 0..births.len() {
@@ -60,7 +64,9 @@ impl Graph {
 
     /// Whether a place is the birth of an edge of a member of a set.
     fn is_birth_in(&self, set: u32, place: u32) -> bool
-        ensures { result ≡ is_birth place (edges_in set self.now.threads self.now.locks (past self.now.entries)) }
+        ensures { result
+            ≡ is_birth place
+            (edges_in set self.now.threads self.now.locks (past self.now.entries)) }
     {
         is_owner_in(set, &self.edge_born(place))
     }

@@ -17,7 +17,11 @@ impl Graph {
     /// hold edge with the next birth, and, for `i` above 0, has a greater number than the owner at position 0.
     /// Behind the last position comes the first. A list shorter than 2 fails at 0.
     pub fn is_cycle(&self, births: &Births) -> Result<(), u32>
-        ensures { MatchResult result (λ done. cycle_fault self.now.threads self.now.locks (past self.now.entries) births.now ≡ None) (λ i. cycle_fault self.now.threads self.now.locks (past self.now.entries) births.now ≡ Some i) }
+        ensures { MatchResult result
+            (λ done. cycle_fault self.now.threads self.now.locks (past self.now.entries) births.now
+            ≡ None)
+            (λ i. cycle_fault self.now.threads self.now.locks (past self.now.entries) births.now
+            ≡ Some i) }
     {
         if births.len() < 2 {
             return Err(0);
@@ -46,7 +50,8 @@ impl Graph {
 
     /// The hold edge with a birth; none exactly where no lock has one.
     pub fn held_at(&self, place: u32) -> Option<Edge>
-        ensures value { result ≡ held_at self.now.threads self.now.locks (past self.now.entries) place }
+        ensures value { result ≡ held_at self.now.threads self.now.locks (past self.now.entries)
+            place }
         ensures thread { IfSome result (λ e. e.t.0 < self.now.threads) }
     {
         match self.edge_born(place) {
@@ -57,7 +62,8 @@ impl Graph {
 
     /// Whether position `i` of a list of places passes.
     fn passes(&self, first: u32, i: u32, place: u32, next: u32) -> bool
-        ensures { result ≡ passes (held_at self.now.threads self.now.locks (past self.now.entries)) (waits self.now.threads (past self.now.entries)) first i place next }
+        ensures { result ≡ passes (held_at self.now.threads self.now.locks (past self.now.entries))
+            (waits self.now.threads (past self.now.entries)) first i place next }
     {
         let found = self.held_at(place);
         self.leads(&found, next) && (i == 0 || is_later(&self.held_at(first), &found))

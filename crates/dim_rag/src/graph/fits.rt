@@ -14,7 +14,9 @@ impl Graph {
     /// Whether an entry may come next: its thread and its lock, where it has them, are in range, and the mode of
     /// its thread and the holder of its lock allow it.
     pub fn fits(&self, e: &Entry) -> bool
-        ensures { IsTrue result ↔ (IsInRange self.now.threads self.now.locks e.now × FitsAfter (past self.now.entries) e.now) }
+        ensures { IsTrue result
+            ↔ (IsInRange self.now.threads self.now.locks e.now
+            × FitsAfter (past self.now.entries) e.now) }
     {
         self.is_in_range(e) && self.is_fit(e)
     }
@@ -81,7 +83,8 @@ impl Graph {
     /// Whether a thread runs, or yields on this lock with this stack.
     pub fn may_ask(&self, t: Tid, l: Lid, stack: &Stack) -> bool
         requires { t.0 < self.now.threads }
-        ensures value { result ≡ may_ask l stack.now (mode t.0 (past self.now.entries)) (latest_wish t.0 (past self.now.entries)) }
+        ensures value { result ≡ may_ask l stack.now (mode t.0 (past self.now.entries))
+            (latest_wish t.0 (past self.now.entries)) }
         ensures ready { IsTrue result → IsReady t.0 l stack.now (past self.now.entries) }
         ensures always { IsReady t.0 l stack.now (past self.now.entries) → IsTrue result }
     {

@@ -159,7 +159,8 @@ pub fn birth_held_by(t: Tid, holder: &Option<Edge>) -> Option<u32>
 pub fn replay(rows: &mut Vec<Row>, holders: &mut Vec<Option<Edge>>, e: &Entry, place: u32)
     requires { IsInRange (vec_len rows.old) (vec_len holders.old) e.now }
     ensures rows { rows.new.items ≡ rows_after rows.old.items e.now place }
-    ensures holders { holders.new.items ≡ holders_after rows.old.items holders.old.items e.now place }
+    ensures holders { holders.new.items ≡ holders_after rows.old.items holders.old.items e.now
+        place }
 {
     if let Some(t) = thread_of(e) {
         if let Some(l) = lock_of(e) {

@@ -15,8 +15,12 @@ impl Graph {
     /// A member may be one where it has ended, or is allowed on a lock that a member holds, or yields with
     /// causes that all stand and whose owners are all members.
     pub fn is_stuck(&self, set: u32) -> Result<(), Tid>
-        ensures reading { MatchResult result (λ done. IsStuck self.now.threads self.now.locks (past self.now.entries) set) (λ t. IsFirstFree self.now.threads self.now.locks (past self.now.entries) set t.0) }
-        ensures value { MatchResult result (λ done. stale self.now.threads self.now.locks (past self.now.entries) set ≡ None) (λ t. stale self.now.threads self.now.locks (past self.now.entries) set ≡ Some t.0) }
+        ensures reading { MatchResult result
+            (λ done. IsStuck self.now.threads self.now.locks (past self.now.entries) set)
+            (λ t. IsFirstFree self.now.threads self.now.locks (past self.now.entries) set t.0) }
+        ensures value { MatchResult result
+            (λ done. stale self.now.threads self.now.locks (past self.now.entries) set ≡ None)
+            (λ t. stale self.now.threads self.now.locks (past self.now.entries) set ≡ Some t.0) }
     {
         for t in 0..32 {
             if is_member(set, t) && !self.is_held(set, t) {
@@ -30,7 +34,8 @@ impl Graph {
     ///
     /// None exactly where no member yields.
     pub fn choice(&self, set: u32) -> Option<Tid>
-        ensures { option_map (λ (t : Tid). t.0) result ≡ choice set self.now.locks (past self.now.entries) self.now.threads }
+        ensures { option_map (λ (t : Tid). t.0) result
+            ≡ choice set self.now.locks (past self.now.entries) self.now.threads }
     {
         let mut best: Option<Tid> = None;
         for t in 0..self.threads() {
@@ -51,7 +56,8 @@ impl Graph {
     /// The same for a thread.
     fn is_held_in(&self, set: u32, t: Tid) -> bool
         requires { t.0 < self.now.threads }
-        ensures { result ≡ is_held_by set self.now.threads self.now.locks (past self.now.entries) (mode t.0 (past self.now.entries)) (latest_wish t.0 (past self.now.entries)) }
+        ensures { result ≡ is_held_by set self.now.threads self.now.locks (past self.now.entries)
+            (mode t.0 (past self.now.entries)) (latest_wish t.0 (past self.now.entries)) }
     {
         match self.mode(t) {
             Mode::Ended { .. } => true,
@@ -92,7 +98,8 @@ impl Graph {
 
     /// Whether a thread holds more locks than one before it, if there is one.
     fn holds_more(&self, best: Option<Tid>, t: Tid) -> bool
-        ensures { result ≡ holds_more self.now.locks (past self.now.entries) (option_map (λ (u : Tid). u.0) best) t.0 }
+        ensures { result ≡ holds_more self.now.locks (past self.now.entries)
+            (option_map (λ (u : Tid). u.0) best) t.0 }
     {
         match best {
             None => true,

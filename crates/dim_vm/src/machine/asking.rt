@@ -20,7 +20,8 @@ impl Machine {
         requires may { MayAsk (D.seen door.old) (request_of program.now self.old l) }
         ensures reply { IsReplyTo (D.seen door.old) (request_of program.now self.old l) result }
         ensures value { self.new ≡ asked l self.old result }
-        ensures seen { D.seen door.new ≡ told (D.seen door.old) (request_of program.now self.old l) result }
+        ensures seen { D.seen door.new ≡ told (D.seen door.old) (request_of program.now self.old l)
+            result }
         ensures reaches { D.reaches door.old door.new }
     {
         let stack = self.context.frames.stack(program);
@@ -79,7 +80,8 @@ impl Machine {
         requires may { MayAsk (D.seen door.old) (attempt_of program.now self.old l) }
         ensures reply { IsReplyTo (D.seen door.old) (attempt_of program.now self.old l) result }
         ensures value { self.new ≡ tried l self.old result }
-        ensures seen { D.seen door.new ≡ told (D.seen door.old) (attempt_of program.now self.old l) result }
+        ensures seen { D.seen door.new ≡ told (D.seen door.old) (attempt_of program.now self.old l)
+            result }
         ensures reaches { D.reaches door.old door.new }
     {
         let stack = self.context.frames.stack(program);

@@ -23,8 +23,10 @@ impl Machine {
     /// With a unit left at a LOCK, which is too few to ask, it ends as spent only where it may: a thread may that runs, or is woken.
     /// It takes no memory. One that an entry does not fit may have done a part, and is of no further use.
     pub fn follow(&mut self, program: &Program, e: &Entry, may_end: bool) -> bool
-        ensures fits { IsTrue result ↔ FitsEntry program.now (IsTrue may_end) (rested program.now self.old) e.now }
-        ensures moved { IsTrue result → self.new ≡ moved program.now (rested program.now self.old) e.now }
+        ensures fits { IsTrue result
+            ↔ FitsEntry program.now (IsTrue may_end) (rested program.now self.old) e.now }
+        ensures moved { IsTrue result
+            → self.new ≡ moved program.now (rested program.now self.old) e.now }
     {
         if let State::Running = self.state {
             self.rest(program);
@@ -65,7 +67,8 @@ impl Machine {
 
     /// Whether it hasn't ended, and an entry is of its thread.
     fn may_make(&self, e: &Entry) -> bool
-        ensures { IsTrue result ↔ ((is_ended self.now.state ≡ false) × (thread_of e.now ≡ Some self.now.thread)) }
+        ensures { IsTrue result
+            ↔ ((is_ended self.now.state ≡ false) × (thread_of e.now ≡ Some self.now.thread)) }
     {
         match self.state {
             State::Ended { .. } => false,
@@ -93,7 +96,8 @@ impl Machine {
     /// Ends as spent, if an entry says so.
     fn spend(&mut self, e: &Entry) -> bool
         ensures fits { IsTrue result ↔ IsSpending e.now }
-        ensures moved { IsTrue result → self.new ≡ record self.old { state = State.Ended Why.Spent } }
+        ensures moved { IsTrue result
+            → self.new ≡ record self.old { state = State.Ended Why.Spent } }
     {
         match e {
             Entry::End {
@@ -110,9 +114,14 @@ impl Machine {
     /// Goes on by an entry, if that tells of a step, which is next.
     fn go_on_at(&mut self, program: &Program, step: &Step, e: &Entry, may_end: bool) -> bool
         requires units { 1 ≤ self.old.units }
-        requires found { IsFound program.now self.old.holds self.old.context (told_by self.old.context step.now self.old.context) }
-        ensures fits { IsTrue result ↔ FitsNext self.old.units (stack_of program.now self.old.context.frames) (IsTrue may_end) e.now (told_by self.old.context step.now self.old.context) }
-        ensures moved { IsTrue result → self.new ≡ moved_by self.old e.now (told_by self.old.context step.now self.old.context) }
+        requires found { IsFound program.now self.old.holds self.old.context
+            (told_by self.old.context step.now self.old.context) }
+        ensures fits { IsTrue result
+            ↔ FitsNext self.old.units (stack_of program.now self.old.context.frames)
+            (IsTrue may_end) e.now (told_by self.old.context step.now self.old.context) }
+        ensures moved { IsTrue result
+            → self.new
+            ≡ moved_by self.old e.now (told_by self.old.context step.now self.old.context) }
     {
         if !self.fits(program, step, e, may_end) {
             return false;
@@ -123,7 +132,9 @@ impl Machine {
 
     /// Whether an entry tells of a step, which is next.
     fn fits(&self, program: &Program, step: &Step, e: &Entry, may_end: bool) -> bool
-        ensures { IsTrue result ↔ FitsNext self.now.units (stack_of program.now self.now.context.frames) (IsTrue may_end) e.now (told_by self.now.context step.now self.now.context) }
+        ensures { IsTrue result
+            ↔ FitsNext self.now.units (stack_of program.now self.now.context.frames)
+            (IsTrue may_end) e.now (told_by self.now.context step.now self.now.context) }
     {
         match e {
             Entry::Go { l, stack, .. } | Entry::Yield { l, stack, .. } => {
@@ -179,7 +190,8 @@ impl Machine {
 
     /// Whether a step is to take some lock.
     fn is_at_lock(&self, step: &Step) -> bool
-        ensures { IsTrue result ↔ ((l : Lid) × IsWanting l (told_by self.now.context step.now self.now.context)) }
+        ensures { IsTrue result
+            ↔ ((l : Lid) × IsWanting l (told_by self.now.context step.now self.now.context)) }
     {
         match step {
             Step::Wants { .. } => true,
@@ -199,7 +211,9 @@ impl Machine {
 
     /// Whether it may end so at a step.
     fn may_end(&self, step: &Step, why: Why, may_end: bool) -> bool
-        ensures { IsTrue result ↔ FitsEnd self.now.units (IsTrue may_end) why (told_by self.now.context step.now self.now.context) }
+        ensures { IsTrue result
+            ↔ FitsEnd self.now.units (IsTrue may_end) why
+            (told_by self.now.context step.now self.now.context) }
     {
         match why {
             Why::Spent => self.units == 0 || (self.units == 1 && may_end && self.is_at_lock(step)),
@@ -212,7 +226,8 @@ impl Machine {
         requires units { 1 ≤ self.old.units }
         requires tells { Tells e.now (told_by self.old.context step.now self.old.context) }
         requires safe { IsSafe self.old.context step.now }
-        ensures { self.new ≡ moved_by self.old e.now (told_by self.old.context step.now self.old.context) }
+        ensures { self.new
+            ≡ moved_by self.old e.now (told_by self.old.context step.now self.old.context) }
     {
         match e {
             Entry::Go { l, .. } => self.stand(State::Waits { l: *l }),
@@ -241,7 +256,14 @@ impl Machine {
         requires lock { l.0 < 256 }
         requires at { (top_frame self.old.context.frames).at < 65536 }
         requires operands { length self.old.context.operands < 256 }
-        ensures { self.new ≡ record self.old { units = self.old.units - 1; state = State.Running; holds = slice_set self.old.holds l.0 true; context = on (pushed (pos 1) self.old.context) } }
+        ensures { self.new
+            ≡ record self.old {
+              units = self.old.units - 1;
+              state = State.Running;
+              holds = slice_set self.old.holds
+                  l.0 true;
+              context = on (pushed (pos 1) self.old.context);
+            } }
     {
         self.pay();
         self.holds[l.0 as usize] = true;
@@ -253,7 +275,13 @@ impl Machine {
         requires units { 1 ≤ self.old.units }
         requires at { (top_frame self.old.context.frames).at < 65536 }
         requires operands { length self.old.context.operands < 256 }
-        ensures { self.new ≡ record self.old { units = self.old.units - 1; state = State.Running; context = on (pushed (pos 0) self.old.context) } }
+        ensures { self.new
+            ≡ record self.old {
+              units = self.old.units - 1;
+              state = State.Running;
+              context = on
+                  (pushed (pos 0) self.old.context);
+            } }
     {
         self.pay();
         self.context.go_on_with(0);

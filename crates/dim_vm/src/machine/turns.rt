@@ -25,7 +25,8 @@ impl Machine {
         requires going { is_ended self.old.state ≡ false }
         requires thread { (D.seen door.old).thread ≡ self.old.thread }
         requires locks { (D.seen door.old).locks ≡ lock_count program.now }
-        ensures turned { Turned program.now self.old (D.seen door.old) result self.new (D.seen door.new) (D.stopped door.new) (D.woken door.new) }
+        ensures turned { Turned program.now self.old (D.seen door.old) result self.new
+            (D.seen door.new) (D.stopped door.new) (D.woken door.new) }
         ensures reaches { D.reaches door.old door.new }
     {
         if self.units == 0 {
@@ -48,7 +49,8 @@ impl Machine {
     pub(super) fn step(&mut self, program: &Program) -> Step
         requires { 1 ≤ self.old.units }
         ensures step { IsStep program.now self.old result self.new }
-        ensures found { IsFound program.now self.old.holds self.old.context (told_by self.old.context result self.new.context) }
+        ensures found { IsFound program.now self.old.holds self.old.context
+            (told_by self.old.context result self.new.context) }
     {
         let step = self.context.step(program, &self.holds);
         if let Step::Plain = step {
@@ -62,7 +64,8 @@ impl Machine {
         requires room { 1 ≤ (D.seen door.old).left }
         requires faces { Faces program.now self.old (D.seen door.old) (Step.Wants l drops) }
         requires free { IsReady self.old.state (D.seen door.old) (D.woken door.old) }
-        ensures turned { Turned program.now self.old (D.seen door.old) result self.new (D.seen door.new) (D.stopped door.new) (D.woken door.new) }
+        ensures turned { Turned program.now self.old (D.seen door.old) result self.new
+            (D.seen door.new) (D.stopped door.new) (D.woken door.new) }
         ensures going { result ≢ Turn.Stopped }
         ensures reaches { D.reaches door.old door.new }
     {
@@ -79,7 +82,8 @@ impl Machine {
         requires room { 1 ≤ (D.seen door.old).left }
         requires faces { Faces program.now self.old (D.seen door.old) (Step.Wants l drops) }
         requires asks { self.old.state ≢ State.Running }
-        ensures turned { Turned program.now self.old (D.seen door.old) result self.new (D.seen door.new) (D.stopped door.new) (D.woken door.new) }
+        ensures turned { Turned program.now self.old (D.seen door.old) result self.new
+            (D.seen door.new) (D.stopped door.new) (D.woken door.new) }
         ensures reaches { D.reaches door.old door.new }
     {
         match self.acquire(door, l, drops) {
@@ -93,7 +97,8 @@ impl Machine {
     fn free<D: Door>(&mut self, program: &Program, door: &mut D, l: Lid, drops: bool) -> Turn
         requires room { 1 ≤ (D.seen door.old).left }
         requires faces { Faces program.now self.old (D.seen door.old) (Step.Frees l drops) }
-        ensures turned { Turned program.now self.old (D.seen door.old) result self.new (D.seen door.new) (D.stopped door.new) (D.woken door.new) }
+        ensures turned { Turned program.now self.old (D.seen door.old) result self.new
+            (D.seen door.new) (D.stopped door.new) (D.woken door.new) }
         ensures moved { result ≡ Turn.Moved }
         ensures reaches { D.reaches door.old door.new }
     {
@@ -105,7 +110,8 @@ impl Machine {
     fn take<D: Door>(&mut self, program: &Program, door: &mut D, l: Lid) -> Turn
         requires room { 1 ≤ (D.seen door.old).left }
         requires faces { Faces program.now self.old (D.seen door.old) (Step.Tries l) }
-        ensures turned { Turned program.now self.old (D.seen door.old) result self.new (D.seen door.new) (D.stopped door.new) (D.woken door.new) }
+        ensures turned { Turned program.now self.old (D.seen door.old) result self.new
+            (D.seen door.new) (D.stopped door.new) (D.woken door.new) }
         ensures moved { result ≡ Turn.Moved }
         ensures reaches { D.reaches door.old door.new }
     {
@@ -117,7 +123,8 @@ impl Machine {
     fn end<D: Door>(&mut self, program: &Program, door: &mut D, why: Why) -> Turn
         requires room { 1 ≤ (D.seen door.old).left }
         requires faces { Faces program.now self.old (D.seen door.old) (Step.Ends why) }
-        ensures turned { Turned program.now self.old (D.seen door.old) result self.new (D.seen door.new) (D.stopped door.new) (D.woken door.new) }
+        ensures turned { Turned program.now self.old (D.seen door.old) result self.new
+            (D.seen door.new) (D.stopped door.new) (D.woken door.new) }
         ensures over { result ≡ Turn.Over }
         ensures reaches { D.reaches door.old door.new }
     {

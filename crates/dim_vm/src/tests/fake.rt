@@ -109,7 +109,8 @@ fn entry_of(t: Tid, cmd: Command, reply: &Reply) -> Option<Entry>
 
 /// Whether it is a Yield, after which its thread yields.
 fn is_yield(e: &Entry) -> bool
-    ensures { result ≡ true → (t : Tid) → thread_of e.now ≡ Some t → (h : List Entry) → IsYielding t.0 (e.now ∷ h) }
+    ensures { result ≡ true → (t : Tid) → thread_of e.now ≡ Some t → (h : List Entry)
+        → IsYielding t.0 (e.now ∷ h) }
 {
     matches!(e, Entry::Yield { .. })
 }
@@ -123,7 +124,10 @@ impl Fake {
         left: u32,
         script: Script,
     ) -> Result<Fake, OutOfMemory>
-        ensures { IfOk result (λ d. d ≡ record { thread = thread; locks = locks; own = []; last = None; left = left; stops = 0 }) }
+        ensures { IfOk result
+            (λ d. d
+            ≡ record
+            { thread = thread; locks = locks; own = []; last = None; left = left; stops = 0 }) }
     {
         let mut own = Vec::new(alloc);
         own.reserve(left as usize)?;
@@ -190,7 +194,8 @@ impl Fake {
 
     /// Lets a thread take a lock at once while the script has no Busys.
     fn hand_at_once(&mut self) -> Reply
-        ensures reply { (result ≡ reply.Took) ⊎ ((holder : Tid) × (result ≡ reply.MissBusy holder)) }
+        ensures reply { (result ≡ reply.Took)
+            ⊎ ((holder : Tid) × (result ≡ reply.MissBusy holder)) }
         ensures kept { self.new ≡ self.old }
     {
         if self.script.busys == 0 {
