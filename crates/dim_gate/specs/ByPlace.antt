@@ -26,7 +26,8 @@ pub record PrefixLaw : Type 0 where
   pub each : (loaded : List Sig) (depth : ℕ) (newer older : List Entry) → IsImmune loaded depth (newer ++ older) → IsImmuneAt loaded depth older
   pub whole : (loaded : List Sig) (depth : ℕ) (h : List Entry) → ((newer older : List Entry) → newer ++ older ≡ h → IsImmuneAt loaded depth older) → IsImmune loaded depth h
 
--- as many signatures are known as were loaded and learnt; a loaded one keeps its number; that of a Learn has the next number, and is known at lists longer than its place
+-- as many signatures are known as were loaded and learnt; a loaded one keeps its number and its state;
+-- that of a Learn has the next number, is switched on, and is known at lists longer than its place
 pub record KnownLaw : Type 0 where
   pub count : (loaded : List Sig) (depth : ℕ) (h : List Entry) → length (knowns loaded depth h) ≡ length loaded + length (learns h)
   pub loaded : (loaded : List Sig) (depth : ℕ) (h : List Entry) (i : ℕ) (s : Sig) → slice_get loaded i ≡ Some s → slice_get (knowns loaded depth h) i ≡ Some record { sig = s; since = 0 }

@@ -1,5 +1,5 @@
 -- The monitor is told the notes as they are taken.
-use Rattle.std.proofs.Common.{◌≡◌, ℕ, ◌+◌, refl, ap, sym, ◌∙◌, subst, arith, List, [], ◌∷◌, ◌++◌, length}
+use Rattle.std.proofs.Common.{◌≡◌, ℕ, ◌+◌, refl, ap, sym, ◌∙◌, subst, arith, List, [], ◌∷◌, ◌++◌, length, take}
 use Rattle.std.specs.Prelude.{Some, slice_get}
 use mathlib.Core.List.{IsPrefix}
 use Rattle.std.proofs.lemmas.List.{append_assoc}
@@ -20,9 +20,13 @@ pub record IsPassing (g0 g : Gate) (n : Notes) (m0 m : Replay) : Type 0 where
   pub empty : n.kept.notes.items ≡ []
   pub fed : IsFed g0 m0 m (length m.entries)
 
--- the note that is taken next is the entry behind those taken before
-pub next_note : (es seen now : List Entry) (e : Entry) → now ≡ seen ++ e ∷ [] → IsPrefix now es → slice_get es (length seen) ≡ Some e
-next_note es seen now e q p =
-    let all : seen ++ (e ∷ p.0) ≡ es = sym (append_assoc seen (e ∷ []) p.0) ∙ ap (λ (x : List Entry). x ++ p.0) (sym q) ∙ p.1 in
+-- the note that comes next is the entry behind those taken before
+pub next_note : (es seen ahead : List Entry) (e : Entry) → IsPrefix (e ∷ []) ahead → IsPrefix (seen ++ ahead) es → slice_get es (length seen) ≡ Some e
+next_note es seen ahead e q p =
+    let all : seen ++ (e ∷ (q.0 ++ p.0)) ≡ es = ap (λ (x : List Entry). seen ++ (x ++ p.0)) q.1 ∙ sym (append_assoc seen ahead p.0) ∙ p.1 in
     let place : length seen + 0 ≡ length seen = omega arith in
-    subst (λ (n : ℕ). slice_get es n ≡ Some e) place (subst (λ (x : List Entry). slice_get x (length seen + 0) ≡ Some e) all (read_behind seen (e ∷ p.0) 0 e refl))
+    subst (λ (n : ℕ). slice_get es n ≡ Some e) place (subst (λ (x : List Entry). slice_get x (length seen + 0) ≡ Some e) all (read_behind seen (e ∷ (q.0 ++ p.0)) 0 e refl))
+
+-- and it is then taken
+pub one_taken : (ahead : List Entry) (e : Entry) → IsPrefix (e ∷ []) ahead → take 1 ahead ≡ e ∷ []
+one_taken ahead e q = sym (ap (λ (x : List Entry). take 1 x) q.1)
