@@ -1,6 +1,6 @@
 -- Yields that are counted one by one, and the numbers that the Yields of a legal history name.
-use Rattle.std.proofs.Common.{◌≡◌, ℕ, zero, suc, ◌+◌, ◌<◌, ◌≤◌, min, Bool, true, false, cond, eqb, refl, ap, sym, ◌∙◌, subst, inl, inr, arith, List, [], ◌∷◌, ◌++◌, length, map, take, get_or, reverse, Option, Some, None}
-use Rattle.std.specs.Prelude.{All, IfSome, slice_get, option_map}
+use Rattle.std.proofs.Common.{◌≡◌, ℕ, zero, suc, ◌+◌, ◌<◌, ◌≤◌, min, Bool, false, cond, eqb, refl, ap, sym, ◌∙◌, subst, inl, inr, arith, List, [], ◌∷◌, ◌++◌, length, map, take, get_or, reverse, Option, Some, None}
+use Rattle.std.specs.Prelude.{IfSome, slice_get, option_map}
 use Rattle.std.specs.List.{AllByRecursion}
 use Rattle.std.proofs.lemmas.Bool.{cases_Bool, eqb-true, eq-eqb}
 use Rattle.std.proofs.lemmas.List.{length-append, length-map, reverse-append}
@@ -10,14 +10,13 @@ use Rattle.std.proofs.lemmas.Option.{MatchOption-at_some, slice_get_within, slic
 use Rattle.dim_rag.specs.declared.entry.Edge.{Edge}
 use Rattle.dim_rag.specs.declared.entry.Entry.{Entry}
 use Rattle.dim_rag.specs.declared.entry.Entry.TheVariants.{Go, Yield, Got, Free, Took, Miss, End, Break, Learn}
-use Rattle.dim_rag.specs.declared.entry.Named.{Named}
 use Rattle.dim_rag.specs.Born.{edge_after}
 use Rattle.dim_rag.specs.History.{past}
 use Rattle.dim_rag.specs.Tables.{Replay}
 use Rattle.dim_rag.specs.Yielded.{yielded}
 use Rattle.dim_signature.specs.Sig.{Sig, IsSig, counted}
 use Rattle.dim_signature.specs.Catalogue.{IsCatalogue, changed_at}
-use Rattle.dim_cover.specs.Named.{with_new, IsNamed, NamedLaw}
+use Rattle.dim_cover.specs.Named.{with_new, IsNamed}
 use Rattle.dim_cover.proofs.Named.{law as named_law}
 use Rattle.dim_gate.specs.Gate.{Gate, Constants, constants, replay}
 use Rattle.dim_gate.specs.Known.{Known, knowns, known_sigs, learnt}

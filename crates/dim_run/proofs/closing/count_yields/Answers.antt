@@ -1,4 +1,4 @@
-use Rattle.std.proofs.Common.{◌≡◌, ◌<◌, arith, length}
+use Rattle.std.proofs.Common.{◌<◌, arith, length}
 use Rattle.dim_run.proofs.Grown.{count_first, count_more, still_numbered}
 use Rattle.dim_run.proofs.closing.count_yields.Goals as goal
 
