@@ -1,6 +1,5 @@
 //! Entries in brief, compared with entries.
-ghost use Rattle.std.specs.Prelude.{◌≡◌, ◌↔◌, List, length, IsTrue};
-ghost use Rattle.dim_stack.specs.declared.Frame.{Frame};
+ghost use Rattle.std.specs.Prelude.{◌≡◌, ◌↔◌, length, IsTrue};
 ghost use Rattle.dim_rag.specs.Journal.{IsIn, IsWithin, frames_in, entry_of};
 
 use super::brief::{Brief, Span, entry_of};
