@@ -47,7 +47,7 @@ fn with_yields(alloc: Global, trace: &[u8]) -> Result<String, OutOfMemory> {
     let mut yields = 0u32;
     for line in trace.lines() {
         if line.starts_with("yield ") {
-            yields += 1;
+            yields = yields.saturating_add(1);
         }
     }
     let text = format!(in alloc;

@@ -1,10 +1,10 @@
 -- How far `switch` came.
-use Rattle.std.proofs.Common.{◌≡◌, ◌<◌, ℕ, zero, suc, Bool, List, [], ◌∷◌, length, map, Option, Some, Result, Ok, Err, refl, sym, ap, ◌∙◌, subst, append-nil, arith}
+use Rattle.std.proofs.Common.{◌≡◌, ◌<◌, ℕ, zero, suc, Bool, List, [], ◌∷◌, length, Option, Some, Result, Ok, Err, refl, sym, ap, subst, arith}
 use Rattle.dim_base.specs.Files.{Named, with_file}
 use Rattle.dim_signature.specs.Sig.{Sig, switched as sig_switched}
 use Rattle.dim_signature.specs.Catalogue.{changed_at}
 use Rattle.dim_history_file.specs.Spelling.{history_text}
-use Rattle.dim_history_file.specs.Value.{NamedSig, named}
+use Rattle.dim_history_file.specs.Value.{NamedSig, named, named_sig}
 use Rattle.dim_cli.specs.declared.report.Report.{Report}
 use Rattle.dim_cli.specs.declared.stop.Place.TheVariants.{NewHistory}
 use Rattle.dim_cli.specs.declared.stop.Stop.{Stop}
@@ -19,7 +19,7 @@ use Rattle.dim_cli.proofs.CourseLemmas.{Stops-first, Runs-behind}
 pub named_switched : (names : List (List ℕ)) (sigs : List Sig) (i : ℕ) (on : Bool) → i < length sigs → named names (changed_at i (sig_switched on) sigs) ≡ switched_at i on (named names sigs)
 named_switched names [] i on low = absurd (omega (arith, low))
 named_switched names (s ∷ sigs) zero on low = refl
-named_switched names (s ∷ sigs) (suc i) on low = ap (λ ss. Rattle.dim_history_file.specs.Value.named_sig names s ∷ ss) (named_switched names sigs i on (omega (arith, low)))
+named_switched names (s ∷ sigs) (suc i) on low = ap (λ ss. named_sig names s ∷ ss) (named_switched names sigs i on (omega (arith, low)))
 
 -- ---- the text
 

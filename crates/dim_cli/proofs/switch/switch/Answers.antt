@@ -1,6 +1,6 @@
 use Rattle.std.proofs.Common.{◌≡◌, Some, Ok, sym, ap, ◌∙◌, subst}
 use Rattle.std.proofs.lemmas.Result.{err_from_is_err_and}
-use Rattle.dim_base.specs.Files.{Named, with_file}
+use Rattle.dim_base.specs.Files.{with_file}
 use Rattle.dim_history_file.specs.Seen.{value_of}
 use Rattle.dim_history_file.specs.Spelling.{history_text}
 use Rattle.dim_words.specs.Commands.{switch_words}
