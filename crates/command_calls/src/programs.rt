@@ -38,6 +38,10 @@ pub const NESTED: &[u8] =
 pub const TRIES: &[u8] =
     b"dim program 1\nlock a\nlock b\nfunc left 0\nLOCK a\nTRYLOCK b\nPOP\nUNLOCK a\nRET\nend\nfunc right 0\nLOCK b\nLOCK a\nUNLOCK a\nUNLOCK b\nRET\nend\nthread left 0\nthread right 0\nend program\n";
 
+/// Two threads that take a lock twice and free it twice.
+pub const TAKEN_TWICE: &[u8] =
+    b"dim program 1\nlock a\nfunc main 0\nLOCK a\nLOCK a\nUNLOCK a\nUNLOCK a\nRET\nend\nthread main 0\nthread main 0\nend program\n";
+
 /// A lock taken twice, and one freed that is not held.
 pub const TRAPPED: &[u8] =
     b"dim program 1\nlock a\nfunc re 0\nLOCK a\nLOCK a\nRET\nend\nfunc un 0\nUNLOCK a\nRET\nend\nthread re 0\nthread un 0\nend program\n";

@@ -1,7 +1,7 @@
 //! What the machine does.
 use command_calls::programs::{
     EMPTY, FIVE_FORKS, FIVE_FORKS_AVOIDED, MATCHED_BY_FOUR, MATCHED_BY_ONE, NESTED, PHILOSOPHERS,
-    PLAIN, TRAPPED, TRIES,
+    PLAIN, TAKEN_TWICE, TRAPPED, TRIES,
 };
 use command_calls::words::{RUN, SHORT_SLICES_ALONE};
 use command_calls::{Around, called, loaded};
@@ -92,7 +92,22 @@ fn traps_end_threads(rt: HostRuntime) -> Result<(), Fail> {
     assert_eq!(rt;
         after.held(alloc, "t")?,
         Some(
-            b"dim trace 1\nsettings 8192 4\ngo 0 a re:0\ngot 0 a\ntrap 0 7\ntrap 1 8\nend 4\n".as_slice()
+            b"dim trace 1\nsettings 8192 4\ngo 0 a re:0\ngot 0 a\ntook 0 a re:1\ndone 0\ntrap 1 8\nend 5\n".as_slice()
+        )
+    );
+    Ok(())
+}
+
+#[test]
+fn a_lock_is_free_when_it_was_given_back_as_often(rt: HostRuntime) -> Result<(), Fail> {
+    let alloc = rt.alloc();
+    let words = ["run", "p", "-", "h", "t", "--quantum", "4"];
+    let after = called(&rt, alloc, &words, TAKEN_TWICE, &[], &[])?;
+    assert_eq!(rt; after.status, 0);
+    assert_eq!(rt;
+        after.held(alloc, "t")?,
+        Some(
+            b"dim trace 1\nsettings 8192 4\ngo 0 a main:0\ngot 0 a\ntook 0 a main:1\nfree 0 a\ngo 1 a main:0\nfree 0 a\ndone 0\ngot 1 a\ntook 1 a main:1\nfree 1 a\nfree 1 a\ndone 1\nend 12\n".as_slice()
         )
     );
     Ok(())

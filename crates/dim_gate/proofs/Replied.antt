@@ -6,6 +6,7 @@ use Rattle.dim_base.specs.declared.Lid.{Lid}
 use Rattle.dim_stack.specs.declared.Frame.{Frame}
 use Rattle.dim_rag.specs.declared.entry.Edge.{Edge}
 use Rattle.dim_rag.specs.declared.entry.Entry.{Entry}
+use Rattle.dim_rag.specs.declared.entry.Entry.TheVariants as entry
 use Rattle.dim_rag.specs.declared.entry.Mode.{Mode}
 use Rattle.dim_rag.specs.declared.entry.Mode.TheVariants.{Running, Allowed, Yielding, Ended}
 use Rattle.dim_rag.specs.declared.entry.Named.{Named}
@@ -16,13 +17,19 @@ use Rattle.dim_rag.specs.declared.command.Refusal.{Refusal}
 use Rattle.dim_rag.specs.declared.command.Refusal.TheVariants as refusal
 use Rattle.dim_rag.specs.declared.command.Reply.{Reply}
 use Rattle.dim_rag.specs.declared.command.Reply.TheVariants as reply
-use Rattle.dim_rag.specs.Fits.{AreInRange, FitsAfter, IsInRange}
+use Rattle.dim_rag.specs.History.{mode, hold, count, latest_wish}
+use Rattle.dim_rag.specs.Holder.{holder}
+use Rattle.dim_rag.specs.Edges.{standing}
+use Rattle.dim_rag.specs.Asks.{may_ask}
+use Rattle.dim_rag.specs.Born.{edge_after}
+use Rattle.dim_rag.specs.Fits.{Fits, AreInRange, FitsAfter, IsInRange}
 use Rattle.dim_rag.proofs.Choices.{choice_law}
 use Rattle.dim_signature.specs.Sig.{Sig}
+use Rattle.dim_cover.specs.Named.{named}
 use Rattle.dim_gate.specs.Gate.{Constants}
 use Rattle.dim_gate.specs.Known.{known_sigs}
 use Rattle.dim_gate.specs.Answer.{answer_by, entry_by, entry_of, reply_of, MayGive}
-use Rattle.dim_gate.specs.Threads.{Answer, only, refused, with, own_or, still_or, yield_or_go, busy_or_got, acquire, if_running, release, miss_or, avoid_or_took, end}
+use Rattle.dim_gate.specs.Threads.{Answer, only, refused, with, again_or, still_or, yield_or_go, busy_or_got, acquire, if_running, release, miss_or, avoid_or_took, end}
 use Rattle.dim_gate.specs.Tender.{broken_or_stale, stale_or, known_or, full_or_learnt}
 use Rattle.dim_gate.proofs.Fitting.{fits_after}
 use Rattle.dim_gate.proofs.Legal.{made_legal}
@@ -47,9 +54,9 @@ module _ (t : Tid) (cmd : Command) where
   chosen_tells true x y p q = p
   chosen_tells false x y p q = q
 
-  own_tells : (o : Option Edge) (next : Answer) → Tells t cmd next → Tells t cmd (own_or o next)
-  own_tells None next p = p
-  own_tells (Some e) next p = refusal_tells t cmd (refusal.Own e.birth)
+  again_tells : (l : Lid) (s : List Frame) (n : ℕ) (o : Option Edge) (next : Answer) → Tells t cmd (with reply.Took (entry.Took t l s)) → Tells t cmd next → Tells t cmd (again_or t l s n o next)
+  again_tells l s n None next took p = p
+  again_tells l s n (Some e) next took p = chosen_tells _ (refused (refusal.Own e.birth)) (with reply.Took (entry.Took t l s)) (refusal_tells t cmd (refusal.Own e.birth)) took
 
   running_tells : (m : Mode) (next : Answer) → Tells t cmd next → Tells t cmd (if_running m next)
   running_tells Running next p = p
@@ -110,10 +117,20 @@ learnt t cap known births = chosen_tells t (Learn births) _ (refused (refusal.Fu
 
 -- the entry of the answer to a command is the one that its reply tells
 pub by_reply : (n m cap : ℕ) (sigs : List Sig) (t : Tid) (cmd : Command) (h : List Entry) → Tells t cmd (answer_by n m cap sigs t cmd h)
-by_reply n m cap sigs t (Request l s) h = chosen_tells t (Request l s) _ _ _ (own_tells t (Request l s) _ _ (asked t l s _ _)) refl
+by_reply n m cap sigs t (Request l s) h =
+    let cover : Option Named = named sigs h (edge_after t l s h) in
+    let next : Answer = still_or (standing n m t.0 h) (yield_or_go t l s cover) in
+    let held : Tells t (Request l s) (again_or t l s (count t.0 l.0 h) (hold t.0 l.0 h) next) =
+    again_tells t (Request l s) l s (count t.0 l.0 h) (hold t.0 l.0 h) next refl (asked t l s (standing n m t.0 h) cover) in
+    chosen_tells t (Request l s) (may_ask l s (mode t.0 h) (latest_wish t.0 h)) (again_or t l s (count t.0 l.0 h) (hold t.0 l.0 h) next) (refused (refusal.OutOfTurn (mode t.0 h))) held refl
 by_reply n m cap sigs t (Acquire l) h = acquired t l _ _ _
 by_reply n m cap sigs t (Release l) h = running_tells t (Release l) _ _ (released t l _)
-by_reply n m cap sigs t (Try l s) h = running_tells t (Try l s) _ _ (own_tells t (Try l s) _ _ (tried t l s _ _))
+by_reply n m cap sigs t (Try l s) h =
+    let cover : Option Named = named sigs h (edge_after t l s h) in
+    let next : Answer = miss_or t l s (holder n l.0 h) (avoid_or_took t l s cover) in
+    let held : Tells t (Try l s) (again_or t l s (count t.0 l.0 h) (hold t.0 l.0 h) next) =
+    again_tells t (Try l s) l s (count t.0 l.0 h) (hold t.0 l.0 h) next refl (tried t l s (holder n l.0 h) cover) in
+    running_tells t (Try l s) (mode t.0 h) (again_or t l s (count t.0 l.0 h) (hold t.0 l.0 h) next) held
 by_reply n m cap sigs t (End why) h = ended t why _
 by_reply n m cap sigs t (Break set u) h = stale_tells t (Break set u) _ _ (broken t u set _)
 by_reply n m cap sigs t (Learn births) h = stale_tells t (Learn births) _ _ (known_tells t (Learn births) _ _ (learnt t cap (length sigs) births))
@@ -136,16 +153,18 @@ made_in_range c caller cmd h e may q = go cmd may (made c.threads c.locks c.cap 
     is x q p = subst (IsInRange c.threads c.locks) q p
 
     go : (cmd : Command) → MayGive c caller cmd → IsMade c.threads c.locks c.cap sigs t cmd h e → IsInRange c.threads c.locks e
-    go (Request l s) may (a, inl m) = is _ m.0 may
-    go (Request l s) may (a, inr m) = is _ m.1 may
+    go (Request l s) may (inl (a, inl m)) = is _ m.0 may
+    go (Request l s) may (inl (a, inr m)) = is _ m.1 may
+    go (Request l s) may (inr w) = is _ w.1.0 may
     go (Acquire l) may m = is _ m.0 may
     go (Release l) may m = is _ m.0 may
-    go (Try l s) may (a, b, inl m) = is _ m.0 may
-    go (Try l s) may (a, b, inr m) = is _ m.1 may
+    go (Try l s) may (a, inl w) = is _ w.0 may
+    go (Try l s) may (a, inr (b, inl m)) = is _ m.0 may
+    go (Try l s) may (a, inr (b, inr m)) = is _ m.1 may
     go (End why) may m = is _ m.0 may
     go (Break set u) may m = is _ m.0 (chosen choice_law set c.locks h c.threads u.0 m.2).below
     go (Learn births) may m = is _ m.0 tt
 
 -- and fits
-pub made_fits : (c : Constants) (caller : ℕ) (cmd : Command) (h : List Entry) (e : Entry) → AreInRange c.threads c.locks h → MayGive c caller cmd → entry_of c caller cmd h ≡ Some e → FitsAfter h e
-made_fits c caller cmd h e range may is = fits_after c h e range (made_legal c caller cmd h e may is (made_in_range c caller cmd h e may is))
+pub made_fits : (c : Constants) (caller : ℕ) (cmd : Command) (h : List Entry) (e : Entry) → AreInRange c.threads c.locks h → Fits h → MayGive c caller cmd → entry_of c caller cmd h ≡ Some e → FitsAfter h e
+made_fits c caller cmd h e range fits may is = fits_after c h e range fits (made_legal c caller cmd h e may is (made_in_range c caller cmd h e may is))

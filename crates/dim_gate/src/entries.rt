@@ -39,7 +39,7 @@ pub fn write_entry(place: &mut Entry, t: Tid, cmd: &Command, reply: &Reply) -> b
         }
         (Command::Acquire { l }, Reply::Got) => *place = Entry::Got { t, l: *l },
         (Command::Release { l }, Reply::Freed) => *place = Entry::Free { t, l: *l },
-        (Command::Try { l, stack }, Reply::Took) => {
+        (Command::Request { l, stack } | Command::Try { l, stack }, Reply::Took) => {
             *place = Entry::Took {
                 t,
                 l: *l,

@@ -1,6 +1,6 @@
 -- A thread is allowed exactly where it has an allow edge.
-use Rattle.std.proofs.Common.{◌≡◌, ℕ, ◌<◌, eqb, refl, ap, sym, ◌∙◌, inl, inr, List, get_or}
-use Rattle.std.specs.Prelude.{Option, Some, None, if◌then◌else◌}
+use Rattle.std.proofs.Common.{◌≡◌, ℕ, eqb, refl, ap, sym, ◌∙◌, inl, inr, List, get_or}
+use Rattle.std.specs.Prelude.{Some, None, if◌then◌else◌}
 use Rattle.std.proofs.lemmas.Bool.{cases_Bool, eqb-true}
 use Rattle.dim_base.specs.declared.Lid.{Lid}
 use Rattle.dim_stack.specs.declared.Frame.{Frame}
@@ -9,7 +9,7 @@ use Rattle.dim_rag.specs.declared.entry.Entry.{Entry}
 use Rattle.dim_rag.specs.declared.graph.row.Row.{Row}
 use Rattle.dim_rag.specs.declared.entry.Mode.{Mode}
 use Rattle.dim_rag.specs.declared.entry.Mode.TheVariants.{Running, Allowed, Yielding, Ended}
-use Rattle.dim_rag.specs.History.{mode, allow}
+use Rattle.dim_rag.specs.History.{mode}
 use Rattle.dim_rag.specs.Rows.{IsRow, allowed_on, idle_row}
 use Rattle.dim_rag.specs.EdgeLaws.{HasAllow, AllowedLaw}
 use Rattle.dim_rag.proofs.Rows.{old_mode}

@@ -1,6 +1,7 @@
 pub mod Births
 pub mod History
 pub mod Fits
+pub mod Counts
 pub mod Tables
 pub mod Rows
 pub mod Holder

@@ -1,5 +1,5 @@
 -- What is kept of each thread and each lock, and when that is right.
-use Rattle.std.specs.Prelude.{◌≡◌, ℕ, ◌==◌, ◌+◌, ◌<◌, ◌≤◌, ◌^◌, Bool, ⊤, if◌then◌else◌, List, [], ◌∷◌, length, slice_index_or, slice_set, Option, Some, None, option_map, unwrap_or, All, IfSome}
+use Rattle.std.specs.Prelude.{◌≡◌, ℕ, suc, ◌==◌, ◌+◌, ◌-◌, ◌<◌, ◌≤◌, ◌^◌, nat_lt, Bool, true, false, ◌&&◌, ⊤, if◌then◌else◌, List, [], ◌∷◌, length, slice_index_or, slice_set, Option, Some, None, option_map, unwrap_or, All, IfSome, MatchOption}
 use Rattle.dim_base.specs.declared.Tid.{Tid}
 use Rattle.dim_base.specs.declared.Lid.{Lid}
 use Rattle.dim_stack.specs.declared.Frame.{Frame}
@@ -10,7 +10,8 @@ use Rattle.dim_rag.specs.declared.entry.Entry.TheVariants.{Go, Yield, Got, Free,
 use Rattle.dim_rag.specs.declared.entry.Mode.{Mode}
 use Rattle.dim_rag.specs.declared.entry.Mode.TheVariants.{Running, Allowed, Yielding, Ended}
 use Rattle.dim_rag.specs.declared.graph.row.Row.{Row}
-use Rattle.dim_rag.specs.History.{mode, hold, allow, latest_wish, latest_grant, past}
+use Rattle.dim_rag.specs.History.{mode, hold, allow, count, latest_wish, latest_grant, past}
+use Rattle.dim_rag.specs.Counts.{count_by}
 use Rattle.dim_rag.specs.Fits.{Fits, AreInRange}
 use Rattle.dim_rag.specs.Asks.{may_ask}
 use Rattle.dim_rag.specs.Tables.{thread_of, held_by, HasLockBelow}
@@ -50,27 +51,62 @@ pub record IsRow (t : ℕ) (r : Row) (h : List Entry) : Type 0 where
 abbrev pub IsHolder : ℕ → Option Edge → List Entry → Type 0
 IsHolder l o h = (t : ℕ) → hold t l h ≡ held_by t o
 
--- rows and holders are those of the history, and so many more entries may come
-pub record IsGraph (threads locks spare : ℕ) (rows : List Row) (holders : List (Option Edge)) (entries : List Entry) : Type 0 where
+-- how often l is held is that of the history, by the holder of l, who holds it once or more
+pub record IsCount (l : ℕ) (o : Option Edge) (n : ℕ) (h : List Entry) : Type 0 where
+  pub count_is : (t : ℕ) → count t l h ≡ count_by t o n
+  pub held : MatchOption o (n ≡ 0) (λ e. 1 ≤ n)
+  pub most : n ≤ 255
+
+-- whether t may take a lock at once which has this holder and is held so often
+abbrev pub may_take_by : ℕ → Option Edge → ℕ → Bool
+may_take_by t None n = true
+may_take_by t (Some e) n = (e.t.0 == t) && nat_lt n 255
+
+-- rows, holders and counts are those of the history, and so many more entries may come
+pub record IsGraph (threads locks spare : ℕ) (rows : List Row) (holders : List (Option Edge)) (counts : List ℕ) (entries : List Entry) : Type 0 where
   pub some_threads : 1 ≤ threads
   pub few_threads : threads ≤ 32
   pub few_locks : locks ≤ 256
   pub row_count : length rows ≡ threads
   pub holder_count : length holders ≡ locks
+  pub count_count : length counts ≡ locks
   pub small : length entries + spare < 2 ^ 32
   pub each_row : (t : ℕ) (d : Row) → t < threads → IsRow t (slice_index_or rows t d) (past entries)
   pub each_holder : (l : ℕ) (d : Option Edge) → l < locks → IsHolder l (slice_index_or holders l d) (past entries)
+  pub each_count : (l : ℕ) → l < locks → IsCount l (slice_index_or holders l None) (slice_index_or counts l 0) (past entries)
   pub holders_in : All (λ o. IfSome o (λ e. e.t.0 < threads)) holders
   pub modes_in : All (λ r. HasLockBelow locks r.mode) rows
   pub all_fit : Fits (past entries)
   pub all_in_range : AreInRange threads locks (past entries)
 
--- the lock whose holder an entry changes
+-- the lock that an entry takes or frees
 abbrev pub lock_of : Entry → Option Lid
 lock_of (Got t l) = Some l
 lock_of (Free t l) = Some l
 lock_of (Took t l s) = Some l
 lock_of _ = None
+
+-- how often its lock is held after an entry, where it was held so often before
+abbrev pub count_after : Entry → ℕ → ℕ
+count_after (Got t l) n = 1
+count_after (Took t l s) n = suc n
+count_after (Free t l) n = n - 1
+count_after _ n = n
+
+-- whether an entry, whose lock is held so often before it, changes but the count
+abbrev pub is_quiet : Entry → ℕ → Bool
+is_quiet (Took t l s) n = nat_lt 0 n
+is_quiet (Free t l) n = nat_lt 1 n
+is_quiet _ n = false
+
+-- how often the lock of an entry is held before it
+abbrev pub count_before : List ℕ → Entry → ℕ
+count_before counts e = slice_index_or counts (unwrap_or (option_map (λ (l : Lid). l.0) (lock_of e)) 0) 0
+
+-- a count of a lock that may be taken once more
+abbrev pub HasRoom : Entry → ℕ → Type 0
+HasRoom (Took t l s) n = n < 255
+HasRoom _ n = ⊤
 
 -- the mode of a thread that is broken out at a place
 abbrev pub broken : ℕ → Mode → Mode
@@ -111,8 +147,13 @@ abbrev pub rows_after : List Row → Entry → ℕ → List Row
 rows_after rows e place = put_at rows (option_map (λ (t : Tid). t.0) (thread_of e)) (row_after (row_of rows e) e place)
 
 -- the holders after an entry
-abbrev pub holders_after : List Row → List (Option Edge) → Entry → ℕ → List (Option Edge)
-holders_after rows holders e place = put_at holders (option_map (λ (l : Lid). l.0) (lock_of e)) (holder_after (row_of rows e) e place)
+abbrev pub holders_after : List Row → List (Option Edge) → List ℕ → Entry → ℕ → List (Option Edge)
+holders_after rows holders counts e place =
+    if is_quiet e (count_before counts e) then holders else put_at holders (option_map (λ (l : Lid). l.0) (lock_of e)) (holder_after (row_of rows e) e place)
+
+-- the counts after an entry
+abbrev pub counts_after : List ℕ → Entry → List ℕ
+counts_after counts e = put_at counts (option_map (λ (l : Lid). l.0) (lock_of e)) (count_after e (count_before counts e))
 
 -- whether a thread with this row may ask for l with this stack
 abbrev pub row_may_ask : Lid → List Frame → Row → Bool

@@ -1,9 +1,10 @@
 //! The graph of a history: its allow and hold edges, and what each thread does.
-ghost use Rattle.std.specs.Prelude.{◌≡◌, ℕ, ◌+◌, ◌-◌, ◌<◌, ◌≤◌, ◌^◌, [], ◌∷◌, ◌++◌, length, max, replicate, Some, None, IfOk, IfSome, IfNone, option_map};
+ghost use Rattle.std.specs.Prelude.{◌≡◌, ℕ, ◌+◌, ◌-◌, ◌<◌, ◌≤◌, ◌^◌, [], ◌∷◌, ◌++◌, length, max, replicate, Some, None, IsSome, IfOk, IfSome, IfNone, option_map};
 ghost use Rattle.dim_rag.specs.declared.entry.Edge.{Edge};
-ghost use Rattle.dim_rag.specs.History.{past, mode, allow, hold};
+ghost use Rattle.dim_rag.specs.History.{past, mode, allow, hold, count};
 ghost use Rattle.dim_rag.specs.Holder.{holder};
-ghost use Rattle.dim_rag.specs.Fits.{Fits, FitsAfter, IsInRange, AreInRange};
+ghost use Rattle.dim_rag.specs.Counts.{times_held};
+ghost use Rattle.dim_rag.specs.Fits.{Fits, FitsAfter, IsUnheld, IsInRange, AreInRange};
 ghost use Rattle.dim_rag.specs.Tables.{HasLockBelow, held_by};
 ghost use Rattle.dim_rag.specs.Rows.{idle_row};
 
@@ -35,6 +36,8 @@ pub struct Graph {
     spare: u32,
     rows: Vec<Row>,
     holders: Vec<Option<Edge>>,
+    /// How often each lock is held.
+    counts: Vec<u8>,
     told: Told,
 }
 
@@ -46,7 +49,7 @@ impl Model for Graph {
 
     ghost view = { λ a. record { threads = a.threads; locks = a.locks; entries = a.told; spare = a.spare } };
 
-    ghost invariant = { λ a. IsGraph a.threads a.locks a.spare a.rows.items a.holders.items a.told };
+    ghost invariant = { λ a. IsGraph a.threads a.locks a.spare a.rows.items a.holders.items a.counts.items a.told };
 }
 
 impl Graph {
@@ -61,12 +64,14 @@ impl Graph {
     {
         let rows = idle_rows(alloc, threads)?;
         let holders = free_holders(alloc, locks)?;
+        let counts = vec![in alloc; 0u8; locks as usize]?;
         Ok(Graph {
             threads,
             locks,
             spare: 0,
             rows,
             holders,
+            counts,
             told: Told::new(),
         })
     }
@@ -89,7 +94,13 @@ impl Graph {
             { entries = self.old.entries ++ e.now ∷ []; spare = self.old.spare - 1 } }
     {
         let place = self.told.len();
-        replay(&mut self.rows, &mut self.holders, e, place);
+        replay(
+            &mut self.rows,
+            &mut self.holders,
+            &mut self.counts,
+            e,
+            place,
+        );
         self.told.tell(e);
         self.spare -= 1;
     }
@@ -174,6 +185,20 @@ impl Graph {
             ≡ option_map (λ (e : Edge). e.birth) (hold t.0 l.0 (past self.now.entries)) }
     {
         birth_held_by(t, &self.holders[l.0 as usize])
+    }
+
+    /// How often a lock is held by its holder, from 1 to 255, and 0 exactly where it is free.
+    pub fn count(&self, l: Lid) -> u32
+        requires { l.0 < self.now.locks }
+        ensures value { result ≡ times_held self.now.threads l.0 (past self.now.entries) }
+        ensures owner { (t : ℕ) → IsSome (hold t l.0 (past self.now.entries))
+            → count t l.0 (past self.now.entries) ≡ result }
+        ensures others { (t : ℕ) → hold t l.0 (past self.now.entries) ≡ None
+            → count t l.0 (past self.now.entries) ≡ 0 }
+        ensures free { IsUnheld l.0 (past self.now.entries) → result ≡ 0 }
+        ensures most { result ≤ 255 }
+    {
+        u32::from(self.counts[l.0 as usize])
     }
 
     /// The hold edge of a thread on a lock; none exactly where the thread doesn't hold it.

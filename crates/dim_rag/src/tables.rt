@@ -1,10 +1,11 @@
 //! Tables that replay the entries of a gate's history, and keep them.
-ghost use Rattle.std.specs.Prelude.{◌≡◌, ℕ, ◌+◌, ◌-◌, ◌<◌, ◌≤◌, ◌^◌, ◌↔◌, IsTrue, [], ◌∷◌, ◌++◌, length, slice_get, map, max, Some, None, IfOk, OnOk, OnErr, IfSome, IfNone, MatchResult, option_map};
+ghost use Rattle.std.specs.Prelude.{◌≡◌, ℕ, ◌+◌, ◌-◌, ◌<◌, ◌≤◌, ◌^◌, ◌↔◌, IsTrue, [], ◌∷◌, ◌++◌, length, slice_get, map, max, Some, None, IsSome, IfOk, OnOk, OnErr, IfSome, IfNone, MatchResult, option_map};
 ghost use Rattle.dim_base.specs.declared.Tid.{Tid};
 ghost use Rattle.dim_rag.specs.declared.entry.Edge.{Edge};
-ghost use Rattle.dim_rag.specs.History.{past, mode, allow, hold, latest_wish};
+ghost use Rattle.dim_rag.specs.History.{past, mode, allow, hold, count, latest_wish};
 ghost use Rattle.dim_rag.specs.Holder.{holder};
-ghost use Rattle.dim_rag.specs.Fits.{Fits, FitsAfter, IsInRange, AreInRange};
+ghost use Rattle.dim_rag.specs.Counts.{times_held};
+ghost use Rattle.dim_rag.specs.Fits.{Fits, FitsAfter, IsUnheld, IsInRange, AreInRange};
 ghost use Rattle.dim_rag.specs.Asks.{may_ask, IsReady};
 ghost use Rattle.dim_rag.specs.Tables.{HasLockBelow, held_by};
 ghost use Rattle.dim_rag.specs.Born.{IsEdge};
@@ -217,6 +218,20 @@ impl Tables {
             ≡ option_map (λ (e : Edge). e.birth) (hold t.0 l.0 (past self.now.entries)) }
     {
         self.graph.hold_birth(t, l)
+    }
+
+    /// How often a lock is held by its holder, from 1 to 255, and 0 exactly where it is free.
+    pub fn count(&self, l: Lid) -> u32
+        requires { l.0 < self.now.locks }
+        ensures value { result ≡ times_held self.now.threads l.0 (past self.now.entries) }
+        ensures owner { (t : ℕ) → IsSome (hold t l.0 (past self.now.entries))
+            → count t l.0 (past self.now.entries) ≡ result }
+        ensures others { (t : ℕ) → hold t l.0 (past self.now.entries) ≡ None
+            → count t l.0 (past self.now.entries) ≡ 0 }
+        ensures free { IsUnheld l.0 (past self.now.entries) → result ≡ 0 }
+        ensures most { result ≤ 255 }
+    {
+        self.graph.count(l)
     }
 
     /// The hold edge of a thread on a lock; none exactly where the thread doesn't hold it.

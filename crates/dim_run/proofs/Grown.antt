@@ -21,7 +21,7 @@ use Rattle.dim_cover.proofs.Named.{law as named_law}
 use Rattle.dim_gate.specs.Gate.{Gate, Constants, constants, replay}
 use Rattle.dim_gate.specs.Known.{Known, knowns, known_sigs, learnt}
 use Rattle.dim_gate.specs.Legal.{Legal, IsLegalAfter}
-use Rattle.dim_gate.proofs.Vetted.{legal_made}
+use Rattle.dim_gate.proofs.Vetted.{legal_yield}
 use Rattle.dim_run.specs.Grown.{is_yield_of, yields_of, counted_from, grown, GrownLaw, AreNumbered, with_yield}
 
 -- ---- counting
@@ -152,7 +152,7 @@ IsNumbered n e = IfSome (yielded e) (λ i. i < n)
 
 -- a Yield names a signature that is known before it
 yield_named : (c : Constants) (e : Entry) (h : List Entry) → IsLegalAfter c h e → IsNumbered (length (known_sigs c.loaded c.depth h)) e
-yield_named c (Yield t l s sig b) h k = elim (legal_made c h (Yield t l s sig b) k).1 [
+yield_named c (Yield t l s sig b) h k = elim (legal_yield c h t l s sig b k).1 [
   | inl m ↦ absurd (let q = m.0 in cc)
   | inr m ↦
       let same : Yield t l s m.0.sig m.0.births ≡ Yield t l s sig b = m.1 in

@@ -8,6 +8,7 @@ use Rattle.dim_stack.specs.declared.Frame.{Frame}
 use Rattle.dim_asm.specs.Code.{Code, op_at, lock_count}
 use Rattle.dim_asm.specs.declared.op.Op.{Op}
 use Rattle.dim_asm.specs.declared.op.Op.TheVariants as op
+use Rattle.dim_base.specs.declared.Lid.{Lid}
 use Rattle.dim_rag.specs.declared.entry.Entry.{Entry}
 use Rattle.dim_rag.specs.declared.entry.Entry.TheVariants.{Go, Yield, Got, Free, Took, Miss, End, Break, Learn}
 use Rattle.dim_rag.specs.declared.entry.Why.TheVariants.{Done, Trapped, Spent}
@@ -21,7 +22,7 @@ use Rattle.dim_vm.specs.Tops.{rest}
 use Rattle.dim_vm.specs.Trap.{number, ◌>>=◌}
 use Rattle.dim_vm.specs.Frames.{top_frame, local, entered, frame_of, stack_of}
 use Rattle.dim_vm.specs.Operands.{top, push, pop, duplicate, swap, calculate, sum, difference, is_less, is_equal, is_zero, lock_operand}
-use Rattle.dim_vm.specs.Table.{Next, Plain, Ends, Wants, Frees, Tries, is_held, next, row, row_at, row_here, ended_by, operated, has_local, jump, on, dropped}
+use Rattle.dim_vm.specs.Table.{Next, Plain, Ends, Wants, Retakes, Frees, Tries, times, lock_next, next, row, row_at, row_here, ended_by, operated, has_local, jump, on, dropped}
 use Rattle.dim_vm.specs.Configuration.{Configuration, Course, course, course_by, next_of, start, rested_in, moved, moved_by, passed, missed, led}
 use Rattle.dim_vm.specs.Walks.{FitsCaller, caller_of, own_of}
 use Rattle.dim_trace.specs.Grammar.{IsWhy}
@@ -69,6 +70,7 @@ module _ (p : Code) where
   Leaves (Plain b) = AreDeep b.frames
   Leaves (Ends why) = IsWhy why
   Leaves (Wants l after) = AreDeep after.frames
+  Leaves (Retakes l after) = AreDeep after.frames
   Leaves (Frees l after) = AreDeep after.frames
   Leaves (Tries l took miss) = AreDeep took.frames × AreDeep miss.frames
 
@@ -98,9 +100,12 @@ module _ (p : Code) where
   in_call true fs f k b e = omega (arith, ltb-true (length fs) 32 e)
   in_call false fs f k b e = tt
 
-  module _ (holds : List Bool) (b : Context) (few : length (rest b.frames) ≤ 31) where
+  module _ (holds : List ℕ) (b : Context) (few : length (rest b.frames) ≤ 31) where
     in_operated : (r : Result (List ℤ) Trap) → LeavesRow (operated b r)
     in_operated r = in_bind r _ (λ ns. few)
+
+    in_lock : (l : Lid) (after : Context) → AreDeep after.frames → LeavesRow (lock_next holds l after)
+    in_lock l after h = in_if (nat_lt (times holds l.0) 255) _ _ (in_if (nat_lt 0 (times holds l.0)) _ _ h h) tt
 
     row_leaves : (o : Op) → LeavesRow (row p holds b o)
     row_leaves (op.Push n) = in_operated (push n b.operands)
@@ -117,11 +122,11 @@ module _ (p : Code) where
     row_leaves (op.PutL i) = in_bind (has_local p i b) _ (λ u. in_bind (top b.operands) _ (λ n. few))
     row_leaves (op.Call f) = in_call (nat_lt (length b.frames) 32) b.frames f _ b refl
     row_leaves op.Ret = in_return (nat_lt 1 (length b.frames)) _ (omega (arith, few, rest_less (rest b.frames)))
-    row_leaves (op.Lock l) = in_if (is_held holds l.0) _ _ tt few
-    row_leaves op.LockX = in_bind (lock_operand (lock_count p) b.operands) _ (λ l. in_if (is_held holds l.0) _ _ tt few)
-    row_leaves (op.Unlock l) = in_if (is_held holds l.0) _ _ few tt
-    row_leaves op.UnlockX = in_bind (lock_operand (lock_count p) b.operands) _ (λ l. in_if (is_held holds l.0) _ _ few tt)
-    row_leaves (op.TryLock l) = in_if (is_held holds l.0) _ _ tt (in_if (nat_lt (length b.operands) 256) _ _ (few, few) tt)
+    row_leaves (op.Lock l) = in_lock l (on b) few
+    row_leaves op.LockX = in_bind (lock_operand (lock_count p) b.operands) _ (λ l. in_lock l (on (dropped b)) few)
+    row_leaves (op.Unlock l) = in_if (nat_lt 0 (times holds l.0)) _ _ few tt
+    row_leaves op.UnlockX = in_bind (lock_operand (lock_count p) b.operands) _ (λ l. in_if (nat_lt 0 (times holds l.0)) _ _ few tt)
+    row_leaves (op.TryLock l) = in_if (nat_lt (times holds l.0) 255) _ _ (in_if (nat_lt (length b.operands) 256) _ _ (few, few) tt) tt
     row_leaves op.Say = in_bind (top b.operands) _ (λ n. few)
     row_leaves op.Halt = tt
 
@@ -142,10 +147,11 @@ module _ (p : Code) where
   by_leaves (Plain b) onwards here h f t = f b h
   by_leaves (Ends why) onwards here h f t = t
   by_leaves (Wants l after) onwards here h f t = t
+  by_leaves (Retakes l after) onwards here h f t = t
   by_leaves (Frees l after) onwards here h f t = t
   by_leaves (Tries l took miss) onwards here h f t = t
 
-  course_leaves : (holds : List Bool) (units : ℕ) (b : Context) → AreDeep b.frames → AreDeep (course p holds units b).context.frames
+  course_leaves : (holds : List ℕ) (units : ℕ) (b : Context) → AreDeep b.frames → AreDeep (course p holds units b).context.frames
   course_leaves holds zero b h = h
   course_leaves holds (suc n) b h =
       by_leaves (next p holds b) (course p holds n) (record { units = suc n; context = b }) (next_leaves holds b (rest_few b.frames h)) (λ x. course_leaves holds n x) h
@@ -161,6 +167,7 @@ module _ (p : Code) where
   passed_leaves (Plain x) b h t = t
   passed_leaves (Ends why) b h t = t
   passed_leaves (Wants l after) b h t = h
+  passed_leaves (Retakes l after) b h t = h
   passed_leaves (Frees l after) b h t = h
   passed_leaves (Tries l took miss) b h t = h.0
 
@@ -168,6 +175,7 @@ module _ (p : Code) where
   missed_leaves (Plain x) b h t = t
   missed_leaves (Ends why) b h t = t
   missed_leaves (Wants l after) b h t = t
+  missed_leaves (Retakes l after) b h t = t
   missed_leaves (Frees l after) b h t = t
   missed_leaves (Tries l took miss) b h t = h.1
 

@@ -15,9 +15,11 @@ use Rattle.dim_rag.specs.declared.entry.Mode.{Mode}
 use Rattle.dim_rag.specs.declared.entry.Mode.TheVariants.{Running, Allowed, Yielding, Ended}
 use Rattle.dim_rag.specs.declared.entry.MissWhy.{MissWhy}
 use Rattle.dim_rag.specs.declared.entry.MissWhy.TheVariants.{Busy, Avoid}
+use Rattle.dim_rag.specs.declared.command.Refusal.TheVariants as refusal
+use Rattle.dim_rag.specs.declared.command.Reply.TheVariants as reply
 use Rattle.dim_rag.specs.declared.entry.Entry.{Entry}
 use Rattle.dim_rag.specs.declared.entry.Entry.TheVariants.{Go, Yield, Got, Free, Took, Miss, End, Break, Learn}
-use Rattle.dim_rag.specs.History.{mode, hold}
+use Rattle.dim_rag.specs.History.{mode, hold, count}
 use Rattle.dim_rag.specs.Holder.{holder}
 use Rattle.dim_rag.specs.Fits.{AreInRange}
 use Rattle.dim_rag.specs.Born.{In, EdgesLaw, all_edges, edge_after}
@@ -33,11 +35,11 @@ use Rattle.dim_cover.specs.Least.{births}
 use Rattle.dim_cover.specs.Named.{with_new, named, IsNamed, NamedLaw}
 use Rattle.dim_gate.specs.Gate.{Constants}
 use Rattle.dim_gate.specs.Known.{Known, knowns, known_sigs, learnt, stack_at, stacks_of}
-use Rattle.dim_gate.specs.Threads.{if_running, own_or, miss_or, avoid_or_took}
+use Rattle.dim_gate.specs.Threads.{if_running, again_or, miss_or, avoid_or_took, refused, with}
 use Rattle.dim_gate.specs.Legal.{Legal, IsLegalAfter}
 use Rattle.dim_gate.proofs.Fitting.{in_range}
 use Rattle.dim_gate.proofs.HeldStacks.{each_held, two_or_more}
-use Rattle.dim_gate.proofs.Vetted.{legal_made}
+use Rattle.dim_gate.proofs.Vetted.{legal_made, legal_yield}
 use Rattle.dim_trace.specs.Grammar.{IsBirth, AreBirths, IsCover, IsMissWhy}
 
 -- ---- lists
@@ -197,11 +199,15 @@ module _ (edges : EdgesLaw) (certificate : CertificateLaw) (walks : WalkLaw) (wa
   IsMissed t l s h (Avoid n) = named (known_sigs c.loaded c.depth h) h (edge_after t l s h) ≡ Some n
 
   missed_by : (t : Tid) (l : Lid) (s : List Frame) (h : List Entry) (why : MissWhy) (r : Mode) (own o : Option Edge) (k : Option Named) → holder c.threads l.0 h ≡ o → named (known_sigs c.loaded c.depth h) h (edge_after t l s h) ≡ k
-      → (if_running r (own_or own (miss_or t l s o (avoid_or_took t l s k)))).entry ≡ Some (Miss t l s why) → IsMissed t l s h why
+      → (if_running r (again_or t l s (count t.0 l.0 h) own (miss_or t l s o (avoid_or_took t l s k)))).entry ≡ Some (Miss t l s why) → IsMissed t l s h why
   missed_by t l s h why (Allowed x p) own o k a b q = absurd (let n : None ≡ Some (Miss t l s why) = q in cc)
   missed_by t l s h why (Yielding x p) own o k a b q = absurd (let n : None ≡ Some (Miss t l s why) = q in cc)
   missed_by t l s h why (Ended p) own o k a b q = absurd (let n : None ≡ Some (Miss t l s why) = q in cc)
-  missed_by t l s h why Running (Some y) o k a b q = absurd (let n : None ≡ Some (Miss t l s why) = q in cc)
+  missed_by t l s h why Running (Some y) o k a b q = absurd (again (eqb (count t.0 l.0 h) 255) q)
+    where
+      again : (f : Bool) → (if f then refused (refusal.Own y.birth) else with reply.Took (Took t l s)).entry ≡ Some (Miss t l s why) → ⊥
+      again true e = let n : None ≡ Some (Miss t l s why) = e in cc
+      again false e = let n : Some (Took t l s) ≡ Some (Miss t l s why) = e in cc
   missed_by t l s h why Running None (Some x) k a b q =
       let e : Some (Miss t l s (Busy x.t)) ≡ Some (Miss t l s why) = q in
       let same : Busy x.t ≡ why = cc in
@@ -228,7 +234,7 @@ module _ (edges : EdgesLaw) (certificate : CertificateLaw) (walks : WalkLaw) (wa
 
   -- the cover that a legal entry tells
   pub yield_cover : NamedLaw → c.cap ≤ 4096 → (t : Tid) (l : Lid) (s : List Frame) (sig : ℕ) (bs : List ℕ) (h : List Entry) → length h ≤ 1048575 → Legal c h → IsLegalAfter c h (Yield t l s sig bs) → IsCover (record { sig = sig; births = bs })
-  yield_cover law cap t l s sig bs h short k e = elim (legal_made c h (Yield t l s sig bs) e).1 [
+  yield_cover law cap t l s sig bs h short k e = elim (legal_yield c h t l s sig bs e).1 [
     | inl m ↦ absurd (let q = m.0 in cc)
     | inr m ↦
         let same : Yield t l s m.0.sig m.0.births ≡ Yield t l s sig bs = m.1 in

@@ -35,16 +35,16 @@ use Rattle.dim_gate.specs.Legal.{Legal, IsLegalAfter, caller_of as number_of_cal
 use Rattle.dim_gate.specs.Settled.{HasEnded, IsSettled, IsWaiting, is_known}
 use Rattle.dim_monitor.specs.Found.{cycles_of}
 use Rattle.dim_vm.specs.Configuration.{Configuration, is_ended, next_of}
-use Rattle.dim_vm.specs.Fitting.{FitsEntry, FitsNext, IsWanting, IsFreeing, IsTrying}
+use Rattle.dim_vm.specs.Fitting.{FitsEntry, FitsNext, IsWanting, IsRetaking, IsFreeing, IsTrying}
 use Rattle.dim_vm.specs.Frames.{stack_of}
-use Rattle.dim_vm.specs.Table.{Next, Plain, Ends, Wants, Frees, Tries}
+use Rattle.dim_vm.specs.Table.{Next, Plain, Ends, Wants, Retakes, Frees, Tries}
 use Rattle.dim_vm.specs.Walks.{Walks, FitsCaller, IsAwake, IsWoken, caller_of, configuration, is_by}
 use Rattle.dim_trace.specs.declared.verdict.Rule.TheVariants as rule
 use Rattle.dim_trace.specs.declared.verdict.Verdict.{Verdict}
 use Rattle.dim_trace.specs.declared.verdict.Verdict.TheVariants.{Yes, No}
 use Rattle.dim_execution.specs.Executes.{Executes}
 use Rattle.dim_trace.specs.Checking.{IsSoundTo, IsVerdict, before}
-use Rattle.dim_trace.specs.Tested.{FoundLaw, same_stack, are_among, is_in_range, is_made, is_legal, wants, frees, tries, wants_some, ends, fits_next, fits, is_awake, is_move, rests, all_rest, is_settled, by_tests, verdict_after, verdict_of}
+use Rattle.dim_trace.specs.Tested.{FoundLaw, same_stack, are_among, is_in_range, is_made, is_legal, wants, retakes, frees, tries, wants_some, ends, fits_next, fits, is_awake, is_move, rests, all_rest, is_settled, by_tests, verdict_after, verdict_of}
 use Rattle.dim_trace.proofs.Settling.{of_cycles}
 
 -- what is never so
@@ -95,6 +95,7 @@ wanting : (l : Lid) (n : Next) → Decides (wants l n) (IsWanting l n)
 wanting l (Wants m after) = Decides-like _ (λ k. (after, ap (λ x. Wants x after) k)) (λ w. (let k : Wants m after ≡ Wants l w.0 = w.1 in cc)) (lid m l)
 wanting l (Plain b) = never (λ w. (let k : Plain b ≡ Wants l w.0 = w.1 in cc))
 wanting l (Ends why) = never (λ w. (let k : Ends why ≡ Wants l w.0 = w.1 in cc))
+wanting l (Retakes m after) = never (λ w. (let k : Retakes m after ≡ Wants l w.0 = w.1 in cc))
 wanting l (Frees m after) = never (λ w. (let k : Frees m after ≡ Wants l w.0 = w.1 in cc))
 wanting l (Tries m took missed) = never (λ w. (let k : Tries m took missed ≡ Wants l w.0 = w.1 in cc))
 
@@ -103,6 +104,7 @@ freeing l (Frees m after) = Decides-like _ (λ k. (after, ap (λ x. Frees x afte
 freeing l (Plain b) = never (λ w. (let k : Plain b ≡ Frees l w.0 = w.1 in cc))
 freeing l (Ends why) = never (λ w. (let k : Ends why ≡ Frees l w.0 = w.1 in cc))
 freeing l (Wants m after) = never (λ w. (let k : Wants m after ≡ Frees l w.0 = w.1 in cc))
+freeing l (Retakes m after) = never (λ w. (let k : Retakes m after ≡ Frees l w.0 = w.1 in cc))
 freeing l (Tries m took missed) = never (λ w. (let k : Tries m took missed ≡ Frees l w.0 = w.1 in cc))
 
 trying : (l : Lid) (n : Next) → Decides (tries l n) (IsTrying l n)
@@ -110,12 +112,22 @@ trying l (Tries m took missed) = Decides-like _ (λ k. (took, missed, ap (λ x. 
 trying l (Plain b) = never (λ w. (let k : Plain b ≡ Tries l w.0 w.1 = w.2 in cc))
 trying l (Ends why) = never (λ w. (let k : Ends why ≡ Tries l w.0 w.1 = w.2 in cc))
 trying l (Wants m after) = never (λ w. (let k : Wants m after ≡ Tries l w.0 w.1 = w.2 in cc))
+trying l (Retakes m after) = never (λ w. (let k : Retakes m after ≡ Tries l w.0 w.1 = w.2 in cc))
 trying l (Frees m after) = never (λ w. (let k : Frees m after ≡ Tries l w.0 w.1 = w.2 in cc))
+
+retaking : (l : Lid) (n : Next) → Decides (retakes l n) (IsRetaking l n)
+retaking l (Retakes m after) = Decides-like _ (λ k. (after, ap (λ x. Retakes x after) k)) (λ w. (let k : Retakes m after ≡ Retakes l w.0 = w.1 in cc)) (lid m l)
+retaking l (Plain b) = never (λ w. (let k : Plain b ≡ Retakes l w.0 = w.1 in cc))
+retaking l (Ends why) = never (λ w. (let k : Ends why ≡ Retakes l w.0 = w.1 in cc))
+retaking l (Wants m after) = never (λ w. (let k : Wants m after ≡ Retakes l w.0 = w.1 in cc))
+retaking l (Frees m after) = never (λ w. (let k : Frees m after ≡ Retakes l w.0 = w.1 in cc))
+retaking l (Tries m took missed) = never (λ w. (let k : Tries m took missed ≡ Retakes l w.0 = w.1 in cc))
 
 wanting_some : (n : Next) → Decides (wants_some n) ((l : Lid) × IsWanting l n)
 wanting_some (Wants m after) = always (m, (after, refl))
 wanting_some (Plain b) = never (λ w. (let k : Plain b ≡ Wants w.0 w.1.0 = w.1.1 in cc))
 wanting_some (Ends why) = never (λ w. (let k : Ends why ≡ Wants w.0 w.1.0 = w.1.1 in cc))
+wanting_some (Retakes m after) = never (λ w. (let k : Retakes m after ≡ Wants w.0 w.1.0 = w.1.1 in cc))
 wanting_some (Frees m after) = never (λ w. (let k : Frees m after ≡ Wants w.0 w.1.0 = w.1.1 in cc))
 wanting_some (Tries m took missed) = never (λ w. (let k : Tries m took missed ≡ Wants w.0 w.1.0 = w.1.1 in cc))
 
@@ -123,6 +135,7 @@ ending : (t : Tid) (why : Why) (n : Next) → Decides (ends t why n) (n ≡ Ends
 ending t why (Ends w) = Decides-like _ (λ k. ap Ends (let q : End t w ≡ End t why = k in cc)) (λ k. ap (End t) (let q : Ends w ≡ Ends why = k in cc)) (Decides-entry (End t w) (End t why))
 ending t why (Plain b) = never (λ k. cc)
 ending t why (Wants m after) = never (λ k. cc)
+ending t why (Retakes m after) = never (λ k. cc)
 ending t why (Frees m after) = never (λ k. cc)
 ending t why (Tries m took missed) = never (λ k. cc)
 
@@ -135,7 +148,7 @@ module _ (units : ℕ) (calls : List Frame) (A : Type 0) (awake : Bool) (is : De
   next_fits (Yield t l s sig births) n = decides_3 _ _ _ (least 2 units) (stack s calls) (wanting l n)
   next_fits (Got t l) n = Decides-and _ _ (least 1 units) (wanting l n)
   next_fits (Free t l) n = Decides-and _ _ (least 1 units) (freeing l n)
-  next_fits (Took t l s) n = decides_3 _ _ _ (least 1 units) (stack s calls) (trying l n)
+  next_fits (Took t l s) n = decides_3 _ _ _ (least 1 units) (stack s calls) (Decides-or _ _ (trying l n) (retaking l n))
   next_fits (Miss t l s why) n = decides_3 _ _ _ (least 1 units) (stack s calls) (trying l n)
   next_fits (End t Spent) n = Decides-or _ _ (Decides-eqb units 0) (decides_3 _ _ _ (Decides-eqb units 1) is (wanting_some n))
   next_fits (End t Done) n = Decides-and _ _ (least 1 units) (ending t Done n)

@@ -11,7 +11,7 @@ use Rattle.dim_rag.specs.Fits.{IsInRange, AreInRange}
 use Rattle.dim_vm.specs.declared.context.Context.{Context}
 use Rattle.dim_vm.specs.declared.state.State.{State}
 use Rattle.dim_vm.specs.declared.state.State.TheVariants.{Running, Waits, Yields, Ended}
-use Rattle.dim_vm.specs.Table.{Next, Plain, Ends, Wants, Frees, Tries, next}
+use Rattle.dim_vm.specs.Table.{Next, Plain, Ends, Wants, Retakes, Frees, Tries, next}
 use Rattle.dim_vm.specs.Configuration.{Configuration, Course, course, course_by, next_of, start, rested_in, moved, moved_by, led}
 use Rattle.dim_vm.specs.Walks.{Walks, FitsCaller, caller_of, is_by, own_of, configuration}
 
@@ -54,10 +54,11 @@ module _ (p : Code) where
   by_less (Plain b) onwards here m f h = omega (arith, f b)
   by_less (Ends why) onwards here m f h = h
   by_less (Wants l after) onwards here m f h = h
+  by_less (Retakes l after) onwards here m f h = h
   by_less (Frees l after) onwards here m f h = h
   by_less (Tries l took miss) onwards here m f h = h
 
-  course_less : (holds : List Bool) (units : ℕ) (b : Context) → (course p holds units b).units ≤ units
+  course_less : (holds : List ℕ) (units : ℕ) (b : Context) → (course p holds units b).units ≤ units
   course_less holds zero b = omega arith
   course_less holds (suc n) b = by_less (next p holds b) (course p holds n) (record { units = suc n; context = b }) n (course_less holds n) (omega arith)
 

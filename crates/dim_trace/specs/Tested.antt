@@ -25,7 +25,7 @@ use Rattle.dim_gate.specs.Settled.{is_known}
 use Rattle.dim_monitor.specs.Found.{cycles_of}
 use Rattle.dim_vm.specs.Configuration.{Configuration, is_ended, next_of}
 use Rattle.dim_vm.specs.Frames.{stack_of}
-use Rattle.dim_vm.specs.Table.{Next, Ends, Wants, Frees, Tries}
+use Rattle.dim_vm.specs.Table.{Next, Ends, Wants, Retakes, Frees, Tries}
 use Rattle.dim_vm.specs.Walks.{caller_of, configuration, is_by}
 use Rattle.dim_trace.specs.declared.verdict.Rule.{Rule}
 use Rattle.dim_trace.specs.declared.verdict.Rule.TheVariants as rule
@@ -63,10 +63,14 @@ is_made (Some x) e = same x e
 abbrev pub is_legal : Constants → List Entry → Entry → Bool
 is_legal c h e = is_in_range c.threads c.locks e && is_made (entry_of c (legal.caller_of c.threads e) (legal.command_of e) h) e
 
--- whether the next thing is to take l, to free it, or to try it
+-- whether the next thing is to take l that isn't held, to take it once more, to free it, or to try it
 abbrev pub wants : Lid → Next → Bool
 wants l (Wants m after) = m.0 == l.0
 wants l _ = false
+
+abbrev pub retakes : Lid → Next → Bool
+retakes l (Retakes m after) = m.0 == l.0
+retakes l _ = false
 
 abbrev pub frees : Lid → Next → Bool
 frees l (Frees m after) = m.0 == l.0
@@ -91,7 +95,7 @@ fits_next units stack awake (Go t l s) n = nat_le 2 units && (same_stack s stack
 fits_next units stack awake (Yield t l s sig births) n = nat_le 2 units && (same_stack s stack && wants l n)
 fits_next units stack awake (Got t l) n = nat_le 1 units && wants l n
 fits_next units stack awake (Free t l) n = nat_le 1 units && frees l n
-fits_next units stack awake (Took t l s) n = nat_le 1 units && (same_stack s stack && tries l n)
+fits_next units stack awake (Took t l s) n = nat_le 1 units && (same_stack s stack && (tries l n || retakes l n))
 fits_next units stack awake (Miss t l s why) n = nat_le 1 units && (same_stack s stack && tries l n)
 fits_next units stack awake (End t Spent) n = (units == 0) || ((units == 1) && (awake && wants_some n))
 fits_next units stack awake (End t why) n = nat_le 1 units && ends t why n

@@ -1,5 +1,6 @@
 -- A machine asks what it may ask.
-use Rattle.std.proofs.Common.{◌≡◌, ◌≢◌, ◌<◌, ◌⊎◌, inl, inr, Bool, true, false, refl, ap, sym, subst, ◌∙◌, arith}
+use Rattle.std.proofs.Common.{◌≡◌, ◌≢◌, ◌<◌, ◌≤◌, ◌⊎◌, inl, inr, Bool, true, false, refl, ap, sym, subst, ◌∙◌, arith}
+use Rattle.std.proofs.lemmas.Bool.{cases_lt}
 use Rattle.dim_base.specs.declared.Tid.{Tid}
 use Rattle.dim_base.specs.declared.Lid.{Lid}
 use Rattle.dim_asm.specs.Code.{Code}
@@ -8,16 +9,16 @@ use Rattle.dim_rag.specs.declared.entry.Why.TheVariants.{Spent}
 use Rattle.dim_rag.specs.declared.command.Command.TheVariants as cmd
 use Rattle.dim_rag.specs.declared.command.Reply.TheVariants as reply
 use Rattle.dim_rag.specs.declared.entry.Mode.TheVariants as modes
-use Rattle.dim_rag.specs.History.{past, mode}
+use Rattle.dim_rag.specs.History.{past, count, mode}
 use Rattle.dim_rag.specs.Fits.{YieldsOn, IsAllowedOn}
 use Rattle.dim_vm.specs.declared.step.Step.TheVariants as step
 use Rattle.dim_vm.specs.declared.state.State.{State}
 use Rattle.dim_vm.specs.declared.state.State.TheVariants.{Running, Waits, Yields, Ended}
 use Rattle.dim_vm.specs.Frames.{stack_of}
-use Rattle.dim_vm.specs.Table.{Ends, Wants, Frees, is_held}
-use Rattle.dim_vm.specs.Steps.{gone, told_by}
-use Rattle.dim_vm.specs.Own.{has_lock, IsYieldingOn}
-use Rattle.dim_vm.specs.Door.{Seen, MayAsk, IsReplyTo, IsAcquired, Runs, WasWoken, told}
+use Rattle.dim_vm.specs.Table.{Ends, Wants, Retakes, Frees, times}
+use Rattle.dim_vm.specs.Steps.{gone, told_by, IsFree, IsAgain, IsHeld}
+use Rattle.dim_vm.specs.Own.{IsYieldingOn}
+use Rattle.dim_vm.specs.Door.{Seen, times_in, Lacks, Holds, HoldsFew, MayAskFor, MayAsk, IsReplyTo, IsAcquired, Runs, told}
 use Rattle.dim_vm.specs.Configuration.{Configuration, next_of, is_ended}
 use Rattle.dim_vm.specs.Fitting.{FitsMachine, MayEnd, IsWanting}
 use Rattle.dim_vm.specs.Turns.{request_of, attempt_of, Faces, IsReady, acquired}
@@ -32,8 +33,21 @@ module _ (p : Code) (c : Configuration) (z : Seen) where
   runs (Ended why) e f going never = let x : true ≡ false = ap is_ended (sym e) ∙ going in cc
 
   -- what its own entries say, as the door sees them
-  has_is : (l : Lid) → FitsMachine p c z.own → z.thread ≡ c.thread → l.0 < 256 → has_lock z.thread.0 l.0 (past z.own) ≡ is_held c.holds l.0
-  has_is l f t low = ap (λ (u : Tid). has_lock u.0 l.0 (past z.own)) t ∙ sym (holds_is p c z.own f l.0 low)
+  pub times_is : (l : Lid) → FitsMachine p c z.own → z.thread ≡ c.thread → l.0 < 256 → times_in z l ≡ times c.holds l.0
+  times_is l f t low = ap (λ (u : Tid). count u.0 l.0 (past z.own)) t ∙ sym (holds_is p c z.own f l.0 low)
+
+  -- a lock that isn't held, that is, and that may be taken once more
+  pub lacks : (l : Lid) → FitsMachine p c z.own → z.thread ≡ c.thread → l.0 < 256 → IsFree (times c.holds l.0) → Lacks z l
+  lacks l f t low h = times_is l f t low ∙ h
+
+  pub has : (l : Lid) → FitsMachine p c z.own → z.thread ≡ c.thread → l.0 < 256 → IsHeld (times c.holds l.0) → Holds z l
+  has l f t low h = let e : times_in z l ≡ times c.holds l.0 = times_is l f t low in let k : 1 ≤ times c.holds l.0 = h in omega (arith, e, k)
+
+  has_few : (l : Lid) → FitsMachine p c z.own → z.thread ≡ c.thread → l.0 < 256 → IsAgain (times c.holds l.0) → HoldsFew z l
+  has_few l f t low h =
+      let e : times_in z l ≡ times c.holds l.0 = times_is l f t low in
+      let k : times c.holds l.0 < 255 = h.1 in
+      (has l f t low h.0, omega (arith, e, k))
 
   runs_in : FitsMachine p c z.own → z.thread ≡ c.thread → c.state ≡ Running → Runs z
   runs_in f t e = subst (λ (u : Tid). mode u.0 (past z.own) ≡ modes.Running) (sym t) (runs_by p c z.own f e)
@@ -44,7 +58,18 @@ module _ (p : Code) (c : Configuration) (z : Seen) where
 
   pub may_free : (l : Lid) (drops : Bool) → Faces p c z (step.Frees l drops) → MayAsk z (cmd.Release l)
   may_free l drops f =
-      (omega (arith, f.locks, f.found.in_range), has_is l f.fits f.thread f.found.low ∙ f.found.held_is, runs_in f.fits f.thread (free_runs l drops f))
+      (omega (arith, f.locks, f.found.in_range), has l f.fits f.thread f.found.low f.found.held, runs_in f.fits f.thread (free_runs l drops f))
+
+  -- a Took of a lock that is held
+  retake_runs : (l : Lid) (drops : Bool) → Faces p c z (step.Retakes l drops) → c.state ≡ Running
+  retake_runs l drops f = runs c.state refl f.fits f.going (λ m w. let x : Retakes l (gone drops c.context) ≡ Wants m w.0 = sym f.shows.is ∙ w.1 in cc)
+
+  pub may_retake : (l : Lid) (drops : Bool) → Faces p c z (step.Retakes l drops) → MayAsk z (request_of p c l)
+  may_retake l drops f =
+      (omega (arith, f.locks, f.found.in_range), inr (has_few l f.fits f.thread f.found.low f.found.held, runs_in f.fits f.thread (retake_runs l drops f)))
+
+  pub has_retaken : (l : Lid) (drops : Bool) → Faces p c z (step.Retakes l drops) → Holds z l
+  has_retaken l drops f = has l f.fits f.thread f.found.low f.found.held.0
 
   -- Took and Miss
   try_runs : (l : Lid) → Faces p c z (step.Tries l) → c.state ≡ Running
@@ -52,14 +77,18 @@ module _ (p : Code) (c : Configuration) (z : Seen) where
 
   pub may_try : (l : Lid) → Faces p c z (step.Tries l) → MayAsk z (attempt_of p c l)
   may_try l f =
-      (omega (arith, f.locks, f.found.0.in_range), has_is l f.fits f.thread f.found.0.low ∙ f.found.0.held_is, runs_in f.fits f.thread (try_runs l f))
+      (omega (arith, f.locks, f.found.0.in_range), may_take (cases_lt 0 (times c.holds l.0)), runs_in f.fits f.thread (try_runs l f))
+    where
+      may_take : (0 < times c.holds l.0) ⊎ (times c.holds l.0 ≤ 0) → Lacks z l ⊎ HoldsFew z l
+      may_take (inl held) = inr (has_few l f.fits f.thread f.found.0.low (omega (arith, held), f.found.0.held))
+      may_take (inr free) = inl (lacks l f.fits f.thread f.found.0.low (omega (arith, free)))
 
   -- Go and Yield
   same_lock : (l m : Lid) (drops : Bool) → Faces p c z (step.Wants l drops) → IsWanting m (next_of p c) → m ≡ l
   same_lock l m drops f w = let x : Wants m w.0 ≡ Wants l (gone drops c.context) = sym w.1 ∙ f.shows.is in cc
 
   free_to_ask : (l : Lid) (drops : Bool) (s : State) (woken : Type 0) → c.state ≡ s → Faces p c z (step.Wants l drops) → IsReady s z woken
-      → Runs z ⊎ (WasWoken z × YieldsOn z.thread.0 l (stack_of p c.context.frames) (past z.own))
+      → MayAskFor z l (stack_of p c.context.frames)
   free_to_ask l drops Running woken e f free = inl (runs_in f.fits f.thread e)
   free_to_ask l drops (Yields m) woken e f free =
       let a = asking p c z.own f.fits (Yields m) e in
@@ -70,7 +99,7 @@ module _ (p : Code) (c : Configuration) (z : Seen) where
 
   pub may_wish : (l : Lid) (drops : Bool) (woken : Type 0) → Faces p c z (step.Wants l drops) → IsReady c.state z woken → MayAsk z (request_of p c l)
   may_wish l drops woken f free =
-      (omega (arith, f.locks, f.found.in_range), has_is l f.fits f.thread f.found.low ∙ f.found.held_is, free_to_ask l drops c.state woken refl f free)
+      (omega (arith, f.locks, f.found.in_range), inl (lacks l f.fits f.thread f.found.low f.found.held, free_to_ask l drops c.state woken refl f free))
 
   pub may_spend : (s : State) (woken : Type 0) → c.state ≡ s → FitsMachine p c z.own → z.thread ≡ c.thread → IsReady s z woken → MayAsk z (cmd.End Spent)
   may_spend Running woken e f t free = inl (runs_in f t e)

@@ -1,8 +1,8 @@
 -- The plain instructions that come next.
-use Rattle.std.proofs.Common.{◌≡◌, ◌↔◌, ℕ, zero, suc, ◌+◌, Bool, refl, ap, sym, ◌∙◌, subst, inl, inr, ◌⊎◌, List, arith}
+use Rattle.std.proofs.Common.{◌≡◌, ◌↔◌, ℕ, zero, suc, ◌+◌, refl, ap, sym, ◌∙◌, subst, inl, inr, ◌⊎◌, List, arith}
 use Rattle.dim_asm.specs.Code.{Code}
 use Rattle.dim_vm.specs.declared.context.Context.{Context}
-use Rattle.dim_vm.specs.Table.{Next, Plain, Ends, Wants, Frees, Tries, next}
+use Rattle.dim_vm.specs.Table.{Next, Plain, Ends, Wants, Retakes, Frees, Tries, next}
 use Rattle.dim_vm.specs.Configuration.{Course, course, course_by}
 use Rattle.dim_vm.specs.Places.{ArePlain, IsOther, IsCourse, CourseLaw}
 
@@ -11,10 +11,11 @@ stays : (q : Next) (onwards : Context → Course) (here : Course) → IsOther q 
 stays (Plain b) onwards here o = absurd o
 stays (Ends why) onwards here o = refl
 stays (Wants l after) onwards here o = refl
+stays (Retakes l after) onwards here o = refl
 stays (Frees l after) onwards here o = refl
 stays (Tries l took missed) onwards here o = refl
 
-module _ (p : Code) (holds : List Bool) where
+module _ (p : Code) (holds : List ℕ) where
   ended : (n : ℕ) (b : Context) → IsOther (next p holds b) → IsCourse p holds (suc n) b (record { units = suc n; context = b })
   ended n b o = record { made = 0; paid = omega arith; plain = refl; over = inr o }
 
@@ -23,6 +24,7 @@ module _ (p : Code) (holds : List Bool) where
   taken_by n b (Plain c) e on = let k = on c in record { made = suc k.made; paid = let i = k.paid in omega (arith, i); plain = (c, e, k.plain); over = k.over }
   taken_by n b (Ends why) e on = ended n b (subst IsOther (sym e) tt)
   taken_by n b (Wants l after) e on = ended n b (subst IsOther (sym e) tt)
+  taken_by n b (Retakes l after) e on = ended n b (subst IsOther (sym e) tt)
   taken_by n b (Frees l after) e on = ended n b (subst IsOther (sym e) tt)
   taken_by n b (Tries l took missed) e on = ended n b (subst IsOther (sym e) tt)
 

@@ -1,5 +1,5 @@
 -- One move keeps that a thread's own entries lead to it.
-use Rattle.std.proofs.Common.{◌≡◌, ℕ, zero, suc, ◌-◌, ◌≤◌, ◌⊎◌, inl, inr, Bool, true, false, List, [], ◌∷◌, ◌++◌, refl, ap, sym, subst, ◌∙◌, arith}
+use Rattle.std.proofs.Common.{◌≡◌, ◌≢◌, ℕ, zero, suc, ◌-◌, ◌≤◌, ◌⊎◌, inl, inr, Bool, true, false, List, [], ◌∷◌, ◌++◌, refl, ap, ap₂, sym, subst, ◌∙◌, arith}
 use Rattle.std.proofs.lemmas.List.{reverse-append}
 use Rattle.dim_stack.specs.declared.Frame.{Frame}
 use Rattle.dim_asm.specs.Code.{Code}
@@ -10,16 +10,19 @@ use Rattle.dim_rag.specs.History.{past}
 use Rattle.dim_vm.specs.declared.context.Context.{Context}
 use Rattle.dim_vm.specs.declared.state.State.{State}
 use Rattle.dim_vm.specs.declared.state.State.TheVariants.{Running, Waits, Yields, Ended}
-use Rattle.dim_vm.specs.Table.{Next, Plain, Ends, Wants, Frees, Tries, next}
+use Rattle.dim_vm.specs.declared.step.Step.{Step}
+use Rattle.dim_vm.specs.declared.step.Step.TheVariants as step
+use Rattle.dim_vm.specs.Table.{Next, Plain, Ends, Wants, Retakes, Frees, Tries, next}
 use Rattle.dim_vm.specs.Configuration.{Configuration, next_of, Course, course, course_by, with_course, rested, rested_in, moved, moved_by, led}
 use Rattle.dim_vm.specs.Fitting.{FitsNext, FitsEntry, FitsOwn, MayEnd, OwnWalk, FitsMachine}
 use Rattle.dim_vm.specs.Moves.{Place, MakesPlain}
+use Rattle.dim_vm.specs.Turns.{IsStep}
 
 pub past_more : (own : List Entry) (e : Entry) → past (own ++ e ∷ []) ≡ e ∷ past own
 past_more own e = reverse-append own (e ∷ [])
 
 -- a plain instruction is one of those that come next
-course_step : (p : Code) (holds : List Bool) (units : ℕ) (b after : Context) → 1 ≤ units → next p holds b ≡ Plain after → course p holds units b ≡ course p holds (units - 1) after
+course_step : (p : Code) (holds : List ℕ) (units : ℕ) (b after : Context) → 1 ≤ units → next p holds b ≡ Plain after → course p holds units b ≡ course p holds (units - 1) after
 course_step p holds zero b after paid e = absurd (omega arith)
 course_step p holds (suc n) b after paid e =
     let m : suc n - 1 ≡ n = omega arith in
@@ -45,10 +48,11 @@ course_here : (n : Next) (onwards : Context → Course) (here : Course) → is_p
 course_here (Plain b) onwards here e = cc
 course_here (Ends why) onwards here e = refl
 course_here (Wants l b) onwards here e = refl
+course_here (Retakes l b) onwards here e = refl
 course_here (Frees l b) onwards here e = refl
 course_here (Tries l a b) onwards here e = refl
 
-course_stays : (p : Code) (holds : List Bool) (units : ℕ) (b : Context) → (units ≡ 0) ⊎ (is_plain (next p holds b) ≡ false) → course p holds units b ≡ record { units = units; context = b }
+course_stays : (p : Code) (holds : List ℕ) (units : ℕ) (b : Context) → (units ≡ 0) ⊎ (is_plain (next p holds b) ≡ false) → course p holds units b ≡ record { units = units; context = b }
 course_stays p holds zero b e = refl
 course_stays p holds (suc n) b (inl e) = absurd (omega arith)
 course_stays p holds (suc n) b (inr e) = course_here (next p holds b) (course p holds n) (record { units = suc n; context = b }) e
@@ -59,13 +63,27 @@ rested_stays_in p c (Waits l) e = refl
 rested_stays_in p c (Yields l) e = refl
 rested_stays_in p c (Ended why) e = refl
 
+still_there : (p : Code) (c c' : Configuration) → c' ≡ record c { units = c.units - 0; context = c'.context } → c'.context ≡ c.context → is_plain (next_of p c) ≡ false → c' ≡ rested p c
+still_there p c c' at kept other =
+    let whole : c.units - 0 ≡ c.units = omega arith in
+    at ∙ ap₂ (λ n b. record c { units = n; context = b }) whole kept ∙ sym (rested_stays_in p c c.state (inr other))
+
+-- a step that wasn't made was behind the plain instructions that come next
+pub rested_here : (p : Code) (c c' : Configuration) (s : Step) → IsStep p c s c' → s ≢ step.Plain → c' ≡ rested p c
+rested_here p c c' step.Plain m other = absurd (other refl)
+rested_here p c c' (step.Ends why) m other = still_there p c c' m.rest m.shows.keeps (ap is_plain m.shows.is)
+rested_here p c c' (step.Wants l drops) m other = still_there p c c' m.rest m.shows.keeps (ap is_plain m.shows.is)
+rested_here p c c' (step.Retakes l drops) m other = still_there p c c' m.rest m.shows.keeps (ap is_plain m.shows.is)
+rested_here p c c' (step.Frees l drops) m other = still_there p c c' m.rest m.shows.keeps (ap is_plain m.shows.is)
+rested_here p c c' (step.Tries l) m other = still_there p c c' m.rest m.shows.keeps (ap is_plain m.shows.is)
+
 -- an entry fits only where no plain instruction comes next
 fits_still : (units : ℕ) (stack : List Frame) (may_end : Type 0) (e : Entry) (n : Next) → FitsNext units stack may_end e n → (units ≡ 0) ⊎ (is_plain n ≡ false)
 fits_still units stack may_end (Go t l s) n h = inr (ap is_plain h.2.1)
 fits_still units stack may_end (Yield t l s sig births) n h = inr (ap is_plain h.2.1)
 fits_still units stack may_end (Got t l) n h = inr (ap is_plain h.1.1)
 fits_still units stack may_end (Free t l) n h = inr (ap is_plain h.1.1)
-fits_still units stack may_end (Took t l s) n h = inr (ap is_plain h.2.2)
+fits_still units stack may_end (Took t l s) n h = elim h.2 [ inl k ↦ inr (ap is_plain k.2) | inr k ↦ inr (ap is_plain k.1) ]
 fits_still units stack may_end (Miss t l s why) n h = inr (ap is_plain h.2.2)
 fits_still units stack may_end (End t Spent) n (inl h) = inl h
 fits_still units stack may_end (End t Spent) n (inr h) = inr (ap is_plain h.2.1.1)

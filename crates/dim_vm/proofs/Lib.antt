@@ -2,7 +2,7 @@ mod Tops
 mod Callers
 pub mod Leads
 mod Stacks
-mod Known
+pub mod Known
 mod Words
 pub mod Stands
 mod Asks
@@ -10,7 +10,7 @@ mod Turns
 mod Following
 pub mod OwnModes
 pub mod OwnWalks
-mod OwnHolds
+pub mod OwnHolds
 mod OwnStacks
 mod NamedFrames
 mod Courses

@@ -1,5 +1,5 @@
 -- The stacks of walks: each frame is at an instruction of the program.
-use Rattle.std.proofs.Common.{◌≡◌, ℕ, zero, suc, nat_lt, Bool, true, false, if◌then◌else◌, List, [], ◌∷◌, length, refl, sym, subst, Option, Some, None, ℤ, Result, Ok, Err}
+use Rattle.std.proofs.Common.{◌≡◌, ℕ, zero, suc, nat_lt, Bool, true, false, if◌then◌else◌, List, [], ◌∷◌, length, refl, sym, subst, inl, inr, Option, Some, None, ℤ, Result, Ok, Err}
 use Rattle.std.specs.Prelude.{⊤, All, IsSome}
 use Rattle.std.specs.List.{AllByRecursion}
 use Rattle.std.proofs.lemmas.List.Elements.{All-from_recursion}
@@ -21,9 +21,9 @@ use Rattle.dim_vm.specs.Tops.{rest}
 use Rattle.dim_vm.specs.Trap.{◌>>=◌}
 use Rattle.dim_vm.specs.Frames.{top_frame, local, entered, stack_of}
 use Rattle.dim_vm.specs.Operands.{top, push, pop, duplicate, swap, calculate, sum, difference, is_less, is_equal, is_zero, lock_operand}
-use Rattle.dim_vm.specs.Table.{Next, Plain, Ends, Wants, Frees, Tries, is_held, next, row, row_at, row_here, ended_by, operated, has_local, jump, on, dropped}
+use Rattle.dim_vm.specs.Table.{Next, Plain, Ends, Wants, Retakes, Frees, Tries, times, next, row, row_at, row_here, ended_by, operated, has_local, jump, on, dropped, lock_next}
 use Rattle.dim_vm.specs.Configuration.{Configuration, Course, course, course_by, next_of, start, rested_in, moved, moved_by, passed, missed, led}
-use Rattle.dim_vm.specs.Fitting.{IsWanting, IsTrying}
+use Rattle.dim_vm.specs.Fitting.{IsWanting, IsRetaking, IsTrying}
 use Rattle.dim_vm.specs.Walks.{Walks, own_of}
 use Rattle.dim_vm.specs.Stacks.{stack_with, IsAtInstruction, AskedLaw}
 
@@ -41,6 +41,7 @@ module _ (p : Code) where
   Leaves (Plain b) = AreThere b.frames
   Leaves (Ends why) = ⊤
   Leaves (Wants l after) = AreThere after.frames
+  Leaves (Retakes l after) = AreThere after.frames
   Leaves (Frees l after) = AreThere after.frames
   Leaves (Tries l took miss) = AreThere took.frames × AreThere miss.frames
 
@@ -79,9 +80,12 @@ module _ (p : Code) where
   fewer [] h = tt
   fewer (f ∷ fs) h = h.1
 
-  module _ (holds : List Bool) (b : Context) (there : AreThere b.frames) where
+  module _ (holds : List ℕ) (b : Context) (there : AreThere b.frames) where
     in_operated : (r : Result (List ℤ) Trap) → LeavesRow (operated b r)
     in_operated r = in_bind r _ (λ ns. there)
+
+    in_lock : (l : Lid) (after : Context) → AreThere after.frames → LeavesRow (lock_next holds l after)
+    in_lock l after h = in_if (nat_lt (times holds l.0) 255) _ _ (in_if (nat_lt 0 (times holds l.0)) _ _ h h) tt
 
     row_leaves : (o : Op) → IsThere (top_frame b.frames) → LeavesRow (row p holds b o)
     row_leaves (op.Push n) t = in_operated (push n b.operands)
@@ -98,11 +102,11 @@ module _ (p : Code) where
     row_leaves (op.PutL i) t = in_bind (has_local p i b) _ (λ u. in_bind (top b.operands) _ (λ n. there))
     row_leaves (op.Call f) t = in_call (nat_lt (length b.frames) 32) b.frames f _ b (all_there b.frames t there)
     row_leaves op.Ret t = in_return (nat_lt 1 (length b.frames)) _ (fewer (rest b.frames) there)
-    row_leaves (op.Lock l) t = in_if (is_held holds l.0) _ _ tt there
-    row_leaves op.LockX t = in_bind (lock_operand (lock_count p) b.operands) _ (λ l. in_if (is_held holds l.0) _ _ tt there)
-    row_leaves (op.Unlock l) t = in_if (is_held holds l.0) _ _ there tt
-    row_leaves op.UnlockX t = in_bind (lock_operand (lock_count p) b.operands) _ (λ l. in_if (is_held holds l.0) _ _ there tt)
-    row_leaves (op.TryLock l) t = in_if (is_held holds l.0) _ _ tt (in_if (nat_lt (length b.operands) 256) _ _ (there, there) tt)
+    row_leaves (op.Lock l) t = in_lock l (on b) there
+    row_leaves op.LockX t = in_bind (lock_operand (lock_count p) b.operands) _ (λ l. in_lock l (on (dropped b)) there)
+    row_leaves (op.Unlock l) t = in_if (nat_lt 0 (times holds l.0)) _ _ there tt
+    row_leaves op.UnlockX t = in_bind (lock_operand (lock_count p) b.operands) _ (λ l. in_if (nat_lt 0 (times holds l.0)) _ _ there tt)
+    row_leaves (op.TryLock l) t = in_if (nat_lt (times holds l.0) 255) _ _ (in_if (nat_lt (length b.operands) 256) _ _ (there, there) tt) tt
     row_leaves op.Say t = in_bind (top b.operands) _ (λ n. there)
     row_leaves op.Halt t = tt
 
@@ -123,10 +127,11 @@ module _ (p : Code) where
   by_leaves (Plain b) onwards here h f t = f b h
   by_leaves (Ends why) onwards here h f t = t
   by_leaves (Wants l after) onwards here h f t = t
+  by_leaves (Retakes l after) onwards here h f t = t
   by_leaves (Frees l after) onwards here h f t = t
   by_leaves (Tries l took miss) onwards here h f t = t
 
-  course_leaves : (holds : List Bool) (units : ℕ) (b : Context) → AreThere b.frames → AreThere (course p holds units b).context.frames
+  course_leaves : (holds : List ℕ) (units : ℕ) (b : Context) → AreThere b.frames → AreThere (course p holds units b).context.frames
   course_leaves holds zero b h = h
   course_leaves holds (suc n) b h =
       by_leaves (next p holds b) (course p holds n) (record { units = suc n; context = b }) (next_leaves holds b h) (λ x. course_leaves holds n x) h
@@ -142,6 +147,7 @@ module _ (p : Code) where
   passed_leaves (Plain x) b h t = t
   passed_leaves (Ends why) b h t = t
   passed_leaves (Wants l after) b h t = h
+  passed_leaves (Retakes l after) b h t = h
   passed_leaves (Frees l after) b h t = h
   passed_leaves (Tries l took miss) b h t = h.0
 
@@ -149,6 +155,7 @@ module _ (p : Code) where
   missed_leaves (Plain x) b h t = t
   missed_leaves (Ends why) b h t = t
   missed_leaves (Wants l after) b h t = t
+  missed_leaves (Retakes l after) b h t = t
   missed_leaves (Frees l after) b h t = t
   missed_leaves (Tries l took miss) b h t = h.1
 
@@ -172,11 +179,15 @@ module _ (p : Code) where
       rested_leaves (moved p c e) (moved p c e).state (moved_leaves c e (next_of p c) (next_leaves c.holds c.context h) h)
 
   -- where a lock is to be taken, or tried, there is an instruction
-  wants_at : (holds : List Bool) (b : Context) (l : Lid) (after : Context) (o : Option Op) → ended_by (row_at p holds b o) ≡ Wants l after → IsSome o
+  wants_at : (holds : List ℕ) (b : Context) (l : Lid) (after : Context) (o : Option Op) → ended_by (row_at p holds b o) ≡ Wants l after → IsSome o
   wants_at holds b l after None e = cc
   wants_at holds b l after (Some x) e = refl
 
-  tries_at : (holds : List Bool) (b : Context) (l : Lid) (took miss : Context) (o : Option Op) → ended_by (row_at p holds b o) ≡ Tries l took miss → IsSome o
+  retakes_at : (holds : List ℕ) (b : Context) (l : Lid) (after : Context) (o : Option Op) → ended_by (row_at p holds b o) ≡ Retakes l after → IsSome o
+  retakes_at holds b l after None e = cc
+  retakes_at holds b l after (Some x) e = refl
+
+  tries_at : (holds : List ℕ) (b : Context) (l : Lid) (took miss : Context) (o : Option Op) → ended_by (row_at p holds b o) ≡ Tries l took miss → IsSome o
   tries_at holds b l took miss None e = cc
   tries_at holds b l took miss (Some x) e = refl
 
@@ -201,6 +212,11 @@ module _ (p : Code) where
       let c = led p t fuel own in
       stack_at t fuel own s is (tries_at c.holds c.context l w.0 w.1 (op_at p (top_frame c.context.frames).func (top_frame c.context.frames).at) w.2)
 
+  retaking_at : (t : Tid) (fuel : ℕ) (own : List Entry) (l : Lid) (s : List Frame) → s ≡ stack_of p (led p t fuel own).context.frames → IsRetaking l (next_of p (led p t fuel own)) → All (IsAtInstruction p) s
+  retaking_at t fuel own l s is w =
+      let c = led p t fuel own in
+      stack_at t fuel own s is (retakes_at c.holds c.context l w.0 (op_at p (top_frame c.context.frames).func (top_frame c.context.frames).at) w.1)
+
   none_at : All (IsAtInstruction p) []
   none_at = All-from_recursion (IsAtInstruction p) [] tt
 
@@ -210,7 +226,13 @@ module _ (p : Code) where
   all_at fuel (Yield t l s sig births ∷ h) w = (wanting_at t fuel (own_of t h) l s w.0.next.1 w.0.next.2, all_at fuel h w.1)
   all_at fuel (Got t l ∷ h) w = (none_at, all_at fuel h w.1)
   all_at fuel (Free t l ∷ h) w = (none_at, all_at fuel h w.1)
-  all_at fuel (Took t l s ∷ h) w = (trying_at t fuel (own_of t h) l s w.0.next.1 w.0.next.2, all_at fuel h w.1)
+  all_at fuel (Took t l s ∷ h) w = (
+    elim w.0.next.2 [
+      | inl k ↦ trying_at t fuel (own_of t h) l s w.0.next.1 k
+      | inr k ↦ retaking_at t fuel (own_of t h) l s w.0.next.1 k
+    ],
+    all_at fuel h w.1,
+  )
   all_at fuel (Miss t l s why ∷ h) w = (trying_at t fuel (own_of t h) l s w.0.next.1 w.0.next.2, all_at fuel h w.1)
   all_at fuel (End t why ∷ h) w = (none_at, all_at fuel h w.1)
   all_at fuel (Break set t ∷ h) w = (none_at, all_at fuel h w.1)

@@ -1,8 +1,8 @@
 -- How a thread stands to which its own entries lead.
-use Rattle.std.proofs.Common.{◌≡◌, ℕ, ◌<◌, ◌≤◌, ◌==◌, ◌&&◌, Bool, true, false, if◌then◌else◌, List, [], ◌∷◌, length, refl, ap, sym, subst, ◌∙◌, arith, set, get_or, Some}
+use Rattle.std.proofs.Common.{◌≡◌, ℕ, suc, ◌-◌, ◌<◌, ◌≤◌, ◌==◌, ◌&&◌, Bool, if◌then◌else◌, List, [], ◌∷◌, length, refl, ap, sym, subst, ◌∙◌, inl, inr, arith, set, get_or, Some}
 use Rattle.std.specs.Prelude.{⊤}
-use Rattle.std.proofs.lemmas.List.{length-set, length-replicate, get_or-replicate, get_or-set_same, get_or-set_other}
-use Rattle.std.proofs.lemmas.Bool.Decides.{nat_tests}
+use Rattle.std.proofs.lemmas.List.{get_or_past, length-set, length-replicate, get_or-replicate, get_or-set_same, get_or-set_other}
+use Rattle.std.proofs.lemmas.Bool.{cases_Bool, cases_lt, eqb-true, eqb-false}
 use Rattle.dim_base.specs.declared.Tid.{Tid}
 use Rattle.dim_base.specs.declared.Lid.{Lid}
 use Rattle.dim_stack.specs.declared.Frame.{Frame}
@@ -11,17 +11,16 @@ use Rattle.dim_rag.specs.declared.entry.Entry.{Entry}
 use Rattle.dim_rag.specs.declared.entry.Entry.TheVariants.{Go, Yield, Got, Free, Took, Miss, End, Break, Learn}
 use Rattle.dim_rag.specs.declared.entry.Mode.{Mode}
 use Rattle.dim_rag.specs.declared.entry.Mode.TheVariants as modes
-use Rattle.dim_rag.specs.History.{past, mode, mode_by, last, latest_wish}
+use Rattle.dim_rag.specs.History.{past, count, mode, mode_by, latest_wish}
 use Rattle.dim_rag.specs.Fits.{YieldsOn, IsAllowedOn}
 use Rattle.dim_rag.specs.Tables.{thread_of}
 use Rattle.dim_vm.specs.declared.state.State.{State}
 use Rattle.dim_vm.specs.declared.state.State.TheVariants.{Running, Waits, Yields, Ended}
 use Rattle.dim_vm.specs.Frames.{stack_of}
-use Rattle.dim_vm.specs.Own.{state_by, has_lock, is_taking, IsModeOf, IsYieldingOn}
+use Rattle.dim_vm.specs.Own.{state_by, IsModeOf, IsYieldingOn}
 use Rattle.dim_vm.specs.Configuration.{Configuration, next_of, rested_in, led}
-use Rattle.dim_vm.specs.Fitting.{IsWanting, IsTrying, OwnWalk, FitsMachine}
-use Rattle.dim_vm.proofs.Known.{Knows, next_free}
-use Rattle.dim_vm.proofs.Words.{own_latest, same_tid, taking_if}
+use Rattle.dim_vm.specs.Fitting.{IsWanting, OwnWalk, FitsMachine}
+use Rattle.dim_vm.proofs.Words.{own_latest, same_tid}
 
 -- what a thread has that stands so
 abbrev pub IsAsking : Code → Configuration → List Entry → State → Type 0
@@ -103,49 +102,43 @@ module _ (p : Code) (t : Tid) (fuel : ℕ) where
   asking_led (Learn births ∷ h) w = absurd w.0.next
 
   long_led : (h : List Entry) → OwnWalk p t fuel h → length (led p t fuel h).holds ≡ 256
-  long_led [] w = length-replicate 256 false
+  long_led [] w = length-replicate {A = ℕ} 256 0
   long_led (Go u l s ∷ h) w = long_led h w.1
   long_led (Yield u l s sig births ∷ h) w = long_led h w.1
-  long_led (Got u l ∷ h) w = length-set _ l.0 true ∙ long_led h w.1
-  long_led (Free u l ∷ h) w = length-set _ l.0 false ∙ long_led h w.1
-  long_led (Took u l s ∷ h) w = length-set _ l.0 true ∙ long_led h w.1
+  long_led (Got u l ∷ h) w = length-set _ l.0 _ ∙ long_led h w.1
+  long_led (Free u l ∷ h) w = length-set _ l.0 _ ∙ long_led h w.1
+  long_led (Took u l s ∷ h) w = length-set _ l.0 _ ∙ long_led h w.1
   long_led (Miss u l s why ∷ h) w = long_led h w.1
   long_led (End u why ∷ h) w = long_led h w.1
   long_led (Break set u ∷ h) w = absurd w.0.next
   long_led (Learn births ∷ h) w = absurd w.0.next
 
-  set_is : (xs : List Bool) (m l : ℕ) (b : Bool) (r : Bool) → length xs ≡ 256 → l < 256 → get_or xs l false ≡ r → get_or (set xs m b) l false ≡ (if m == l then b else r)
-  set_is xs m l b r long low e = grind (arith, nat_tests, get_or-set_same, get_or-set_other)
+  -- a count that is written, by that which was there
+  set_is : (xs : List ℕ) (m l : ℕ) (f : ℕ → ℕ) (r : ℕ) → length xs ≡ 256 → l < 256 → get_or xs l 0 ≡ r → get_or (set xs m (f (get_or xs m 0))) l 0 ≡ (if m == l then f r else r)
+  set_is xs m l f r long low e = elim (cases_Bool (m == l)) [
+    | inl q ↦
+        let same : m ≡ l = eqb-true m l q in
+        let here : get_or (set xs m (f (get_or xs m 0))) m 0 ≡ f (get_or xs m 0) = get_or-set_same xs m (f (get_or xs m 0)) 0 (omega (arith, same, low, long)) in
+        ap (λ k. get_or (set xs m (f (get_or xs m 0))) k 0) (sym same) ∙ here ∙ ap f (ap (λ k. get_or xs k 0) same ∙ e) ∙ sym (ap (λ b. if b then f r else r) q)
+    | inr q ↦ get_or-set_other xs m l (f (get_or xs m 0)) 0 (λ x. eqb-false m l q (sym x)) ∙ e ∙ sym (ap (λ b. if b then f r else r) q)
+  ]
 
-  -- a lock that isn't held is no other
-  lacks : (xs : List Bool) (m l : ℕ) (r : Bool) → get_or xs m false ≡ false → get_or xs l false ≡ r → get_or xs l false ≡ (if m == l then false else r)
-  lacks xs m l r free e = grind (arith, nat_tests)
+  -- what a word of the thread about a lock makes of a count
+  word : (u : Tid) (b : Bool) (x y : ℕ) → Some u ≡ Some t → (if b then x else y) ≡ (if (u.0 == t.0) && b then x else y)
+  word u b x y by = sym (ap (λ a. if a && b then x else y) (same_tid u t by))
 
-  -- a word about a lock
-  word : (u : Tid) (m : Lid) (l : ℕ) (x h : List Entry) → Some u ≡ Some t → (if m.0 == l then is_taking x else has_lock t.0 l h) ≡ is_taking (if (u.0 == t.0) && (m.0 == l) then x else last t.0 l h)
-  word u m l x h by = sym (taking_if (u.0 == t.0) (m.0 == l) x (last t.0 l h) (same_tid u t by))
-
-  wanting_free : (m : Lid) (h : List Entry) → IsWanting m (next_of p (led p t fuel h)) → get_or (led p t fuel h).holds m.0 false ≡ false
-  wanting_free m h w = (subst (Knows (λ l. ⊤) (led p t fuel h).holds (led p t fuel h).context) w.1 (next_free p (led p t fuel h).holds (led p t fuel h).context)).1
-
-  trying_free : (m : Lid) (h : List Entry) → IsTrying m (next_of p (led p t fuel h)) → get_or (led p t fuel h).holds m.0 false ≡ false
-  trying_free m h w = (subst (Knows (λ l. ⊤) (led p t fuel h).holds (led p t fuel h).context) w.2 (next_free p (led p t fuel h).holds (led p t fuel h).context)).1
-
-  -- what a thread holds are the locks about which its latest word is a Got or a Took
-  pub holds_led : (h : List Entry) → OwnWalk p t fuel h → (l : ℕ) → l < 256 → get_or (led p t fuel h).holds l false ≡ has_lock t.0 l h
-  holds_led [] w l low = get_or-replicate 256 l false false low
-  holds_led (Go u m s ∷ h) w l low =
-      lacks _ m.0 l _ (wanting_free m h w.0.next.2) (holds_led h w.1 l low) ∙ word u m l (Go u m s ∷ h) h (by_own (Go u m s) h w)
-  holds_led (Yield u m s sig births ∷ h) w l low =
-      lacks _ m.0 l _ (wanting_free m h w.0.next.2) (holds_led h w.1 l low) ∙ word u m l (Yield u m s sig births ∷ h) h (by_own (Yield u m s sig births) h w)
+  -- how often a thread holds a lock is its count
+  pub holds_led : (h : List Entry) → OwnWalk p t fuel h → (l : ℕ) → l < 256 → get_or (led p t fuel h).holds l 0 ≡ count t.0 l h
+  holds_led [] w l low = get_or-replicate 256 l 0 0 low
+  holds_led (Go u m s ∷ h) w l low = holds_led h w.1 l low
+  holds_led (Yield u m s sig births ∷ h) w l low = holds_led h w.1 l low
   holds_led (Got u m ∷ h) w l low =
-      set_is _ m.0 l true _ (long_led h w.1) low (holds_led h w.1 l low) ∙ word u m l (Got u m ∷ h) h (by_own (Got u m) h w)
+      set_is _ m.0 l (λ n. 1) _ (long_led h w.1) low (holds_led h w.1 l low) ∙ word u (m.0 == l) 1 (count t.0 l h) (by_own (Got u m) h w)
   holds_led (Free u m ∷ h) w l low =
-      set_is _ m.0 l false _ (long_led h w.1) low (holds_led h w.1 l low) ∙ word u m l (Free u m ∷ h) h (by_own (Free u m) h w)
+      set_is _ m.0 l (λ n. n - 1) _ (long_led h w.1) low (holds_led h w.1 l low) ∙ word u (m.0 == l) (count t.0 l h - 1) (count t.0 l h) (by_own (Free u m) h w)
   holds_led (Took u m s ∷ h) w l low =
-      set_is _ m.0 l true _ (long_led h w.1) low (holds_led h w.1 l low) ∙ word u m l (Took u m s ∷ h) h (by_own (Took u m s) h w)
-  holds_led (Miss u m s why ∷ h) w l low =
-      lacks _ m.0 l _ (trying_free m h w.0.next.2) (holds_led h w.1 l low) ∙ word u m l (Miss u m s why ∷ h) h (by_own (Miss u m s why) h w)
+      set_is _ m.0 l suc _ (long_led h w.1) low (holds_led h w.1 l low) ∙ word u (m.0 == l) (suc (count t.0 l h)) (count t.0 l h) (by_own (Took u m s) h w)
+  holds_led (Miss u m s why ∷ h) w l low = holds_led h w.1 l low
   holds_led (End u why ∷ h) w l low = holds_led h w.1 l low
   holds_led (Break set u ∷ h) w l low = absurd w.0.next
   holds_led (Learn births ∷ h) w l low = absurd w.0.next
@@ -186,11 +179,21 @@ module _ (p : Code) (c : Configuration) (own : List Entry) (f : FitsMachine p c 
   pub state_is : c.state ≡ state_by (past own)
   state_is = sym (rested_state p c c.state) ∙ ap (λ x. x.state) (sym f.leads) ∙ state_led p c.thread c.fuel (past own) f.walk
 
-  -- what it holds is told by its own entries
-  pub holds_is : (l : ℕ) → l < 256 → get_or c.holds l false ≡ has_lock c.thread.0 l (past own)
+  -- how often it holds a lock is told by its own entries
+  pub holds_is : (l : ℕ) → l < 256 → get_or c.holds l 0 ≡ count c.thread.0 l (past own)
   holds_is l low =
-      ap (λ xs. get_or xs l false) (sym (rested_holds p c c.state) ∙ ap (λ x. x.holds) (sym f.leads))
+      ap (λ xs. get_or xs l 0) (sym (rested_holds p c c.state) ∙ ap (λ x. x.holds) (sym f.leads))
       ∙ holds_led p c.thread c.fuel (past own) f.walk l low
+
+  long : length c.holds ≡ 256
+  long = ap (λ (xs : List ℕ). length xs) (sym (rested_holds p c c.state) ∙ ap (λ x. x.holds) (sym f.leads)) ∙ long_led p c.thread c.fuel (past own) f.walk
+
+  -- what it holds it holds by its own entries
+  pub held_own : (l : ℕ) → 1 ≤ get_or c.holds l 0 → 1 ≤ count c.thread.0 l (past own)
+  held_own l k = elim (cases_lt l 256) [
+    | inl low ↦ let e : get_or c.holds l 0 ≡ count c.thread.0 l (past own) = holds_is l low in omega (arith, e, k)
+    | inr high ↦ let e : get_or c.holds l 0 ≡ 0 = get_or_past c.holds l 0 (omega (arith, long, high)) in absurd (omega (arith, e, k))
+  ]
 
   mode_is : IsModeOf c.state (mode c.thread.0 (past own))
   mode_is = subst (λ s. IsModeOf s (mode c.thread.0 (past own))) (sym state_is) (mode_own p c.thread c.fuel (past own) f.walk)

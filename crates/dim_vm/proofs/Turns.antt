@@ -17,14 +17,14 @@ use Rattle.dim_vm.specs.declared.state.Turn.TheVariants as turn
 use Rattle.dim_vm.specs.Frames.{stack_of}
 use Rattle.dim_vm.specs.Table.{Plain, Ends, Wants}
 use Rattle.dim_vm.specs.Steps.{told_by}
-use Rattle.dim_vm.specs.Door.{Seen, IsReplyTo, told, grown, IsStop, stops_after, raised, WasStopped}
+use Rattle.dim_vm.specs.Door.{Seen, times_in, IsReplyTo, told, grown, IsStop, stops_after, raised, WasStopped}
 use Rattle.dim_vm.specs.Configuration.{Configuration, next_of, moved, moved_by, is_ended}
 use Rattle.dim_vm.specs.Fitting.{FitsEntry, FitsOwn, FitsNext, FitsMachine, MayEnd}
 use Rattle.dim_vm.specs.Moves.{MakesPlain, is_end}
 use Rattle.dim_vm.specs.Slice.{place}
-use Rattle.dim_vm.specs.Turns.{request_of, attempt_of, Faces, Turned, StopsIf, IsReady, IsStep, asked, acquired, behind_lock, tried}
+use Rattle.dim_vm.specs.Turns.{request_of, attempt_of, Faces, Turned, StopsIf, IsReady, IsStep, asked, acquired, retaken, released, tried}
 use Rattle.dim_vm.proofs.Leads.{fits_entry, fits_plain, fits_own, moved_thread, moved_fuel}
-use Rattle.dim_vm.proofs.Asks.{runs, may_end}
+use Rattle.dim_vm.proofs.Asks.{runs, may_end, lacks}
 
 module _ (p : Code) (c : Configuration) (z : Seen) (stopped woken : Type 0) where
   turned_entry : (r : Reply) (e : Entry) → FitsMachine p c z.own → z.thread ≡ c.thread → FitsOwn p c e → is_end e ≡ false → stops_after r z.stops ≡ z.stops
@@ -67,13 +67,23 @@ module _ (p : Code) (c : Configuration) (z : Seen) (stopped woken : Type 0) wher
   turned_over c' z' why f t m at seen =
       subst (λ x. Turned p c z turn.Over x z' stopped woken) (sym at) (subst (λ y. Turned p c z turn.Over (record c { state = Ended why }) y stopped woken) (sym seen) (turned_end why f t m))
 
-  pub turned_free : (l : Lid) (drops : Bool) (c' : Configuration) (z' : Seen) → Faces p c z (step.Frees l drops) → c' ≡ behind_lock l false drops c → z' ≡ told z (cmd.Release l) reply.Freed → Turned p c z turn.Moved c' z' stopped woken
+  pub turned_free : (l : Lid) (drops : Bool) (c' : Configuration) (z' : Seen) → Faces p c z (step.Frees l drops) → c' ≡ released l drops c → z' ≡ told z (cmd.Release l) reply.Freed → Turned p c z turn.Moved c' z' stopped woken
   turned_free l drops c' z' f at seen =
       turned_by c' z' reply.Freed (entry.Free z.thread l) f.fits f.thread
       (record { going = f.going; by = ap Some f.thread; next = (f.units, (_, f.shows.is)) })
       refl
       refl
       (at ∙ ap (λ n. moved_by c (entry.Free z.thread l) n) (sym f.shows.is))
+      seen
+
+  pub turned_retake : (l : Lid) (drops : Bool) (c' : Configuration) (z' : Seen) → Faces p c z (step.Retakes l drops) → c' ≡ retaken l drops c → z' ≡ told z (request_of p c l) reply.Took
+      → Turned p c z turn.Moved c' z' stopped woken
+  turned_retake l drops c' z' f at seen =
+      turned_by c' z' reply.Took (entry.Took z.thread l (stack_of p c.context.frames)) f.fits f.thread
+      (record { going = f.going; by = ap Some f.thread; next = (f.units, refl, inr (_, f.shows.is)) })
+      refl
+      refl
+      (at ∙ ap (λ n. moved_by c (entry.Took z.thread l (stack_of p c.context.frames)) n) (sym f.shows.is))
       seen
 
   tries : (l : Lid) (e : Entry) (c' : Configuration) (z' : Seen) (r : Reply) → Faces p c z (step.Tries l) → FitsOwn p c e → is_end e ≡ false → stops_after r z.stops ≡ z.stops
@@ -83,7 +93,7 @@ module _ (p : Code) (c : Configuration) (z : Seen) (stopped woken : Type 0) wher
   pub turned_try : (l : Lid) (c' : Configuration) (z' : Seen) (r : Reply) → Faces p c z (step.Tries l) → IsReplyTo z (attempt_of p c l) r
       → c' ≡ tried l c r → z' ≡ told z (attempt_of p c l) r → Turned p c z turn.Moved c' z' stopped woken
   turned_try l c' z' reply.Took f may at seen =
-      tries l (entry.Took z.thread l (stack_of p c.context.frames)) c' z' reply.Took f (record { going = f.going; by = ap Some f.thread; next = (f.units, refl, (_, _, f.shows.is)) }) refl refl at seen
+      tries l (entry.Took z.thread l (stack_of p c.context.frames)) c' z' reply.Took f (record { going = f.going; by = ap Some f.thread; next = (f.units, refl, inl (_, _, f.shows.is)) }) refl refl at seen
   turned_try l c' z' (reply.MissBusy holder) f may at seen =
       tries l (entry.Miss z.thread l (stack_of p c.context.frames) (miss.Busy holder)) c' z' (reply.MissBusy holder) f (record { going = f.going; by = ap Some f.thread; next = (f.units, refl, (_, _, f.shows.is)) }) refl refl at seen
   turned_try l c' z' (reply.MissAvoid named) f may at seen =
@@ -98,6 +108,10 @@ module _ (p : Code) (c : Configuration) (z : Seen) (stopped woken : Type 0) wher
   turned_wish l drops c' z' (reply.Yield named) f two may at seen =
       turned_by c' z' (reply.Yield named) (entry.Yield z.thread l (stack_of p c.context.frames) named.sig named.births) f.fits f.thread
       (record { going = f.going; by = ap Some f.thread; next = (two, refl, (_, f.shows.is)) }) refl refl at seen
+  turned_wish l drops c' z' reply.Took f two may at seen =
+      let none : times_in z l ≡ 0 = lacks p c z l f.fits f.thread f.found.low f.found.held in
+      let some : 1 ≤ times_in z l = may in
+      absurd (omega (arith, none, some))
   turned_wish l drops c' z' _ f two may at seen = absurd may
 
   pub turned_spent : (l : Lid) (drops : Bool) (c' : Configuration) (z' : Seen) → Faces p c z (step.Wants l drops) → IsReady c.state z woken → c.units < 2

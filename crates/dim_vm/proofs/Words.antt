@@ -10,7 +10,6 @@ use Rattle.dim_rag.specs.declared.entry.Entry.TheVariants.{Go, Yield, Got, Free,
 use Rattle.dim_rag.specs.Fits.{IsYielding}
 use Rattle.dim_rag.specs.History.{is_word_of, latest, mode_by, past}
 use Rattle.dim_rag.specs.Tables.{thread_of}
-use Rattle.dim_vm.specs.Own.{is_taking}
 
 pub same_tid : (u t : Tid) → Some u ≡ Some t → (u.0 == t.0) ≡ true
 same_tid u t e = let x : u ≡ t = cc in eq-eqb u.0 t.0 (ap (λ (z : Tid). z.0) x)
@@ -29,12 +28,6 @@ own_word t (Learn births) h = cc
 
 pub own_latest : (t : Tid) (e : Entry) (h : List Entry) → thread_of e ≡ Some t → latest t.0 (e ∷ h) ≡ e ∷ h
 own_latest t e h by = ap (λ (b : Bool). if b then e ∷ h else latest t.0 h) (own_word t e by)
-
--- whether what is chosen leaves a lock held
-pub taking_if : (a b : Bool) (x y : List Entry) → a ≡ true → is_taking (if a && b then x else y) ≡ (if b then is_taking x else is_taking y)
-taking_if true true x y e = refl
-taking_if true false x y e = refl
-taking_if false b x y e = cc
 
 -- after its Yield a thread yields
 pub yield_yields : (t u : Tid) (l : Lid) (s : List Frame) (sig : ℕ) (births : List ℕ) (e : Entry) (h : List Entry) → e ≡ Yield u l s sig births → thread_of e ≡ Some t → IsYielding t.0 (e ∷ h)

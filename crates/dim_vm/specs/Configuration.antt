@@ -1,21 +1,22 @@
 -- The configuration of a thread, and where its own entries lead it.
 use Rattle.std.specs.Prelude.{ℕ, zero, suc, ◌-◌, Bool, true, false, List, [], ◌∷◌, slice_set, replicate}
 use Rattle.dim_base.specs.declared.Tid.{Tid}
+use Rattle.dim_base.specs.declared.Lid.{Lid}
 use Rattle.dim_asm.specs.Code.{Code, start_of}
 use Rattle.dim_rag.specs.declared.entry.Entry.{Entry}
 use Rattle.dim_rag.specs.declared.entry.Entry.TheVariants.{Go, Yield, Got, Free, Took, Miss, End, Break, Learn}
 use Rattle.dim_vm.specs.declared.context.Context.{Context}
 use Rattle.dim_vm.specs.declared.state.State.{State}
 use Rattle.dim_vm.specs.declared.state.State.TheVariants.{Running, Waits, Yields, Ended}
-use Rattle.dim_vm.specs.Table.{begun, Next, Plain, Wants, Frees, Tries, next}
+use Rattle.dim_vm.specs.Table.{begun, times, Next, Plain, Wants, Retakes, Frees, Tries, next}
 
--- the thread, the fuel that it began with, the units that it has left, how it stands, which locks it holds, and what its instructions work on
+-- the thread, the fuel that it began with, the units that it has left, how it stands, how often it holds each lock, and what its instructions work on
 pub record Configuration : Type 0 where
   pub thread : Tid
   pub fuel : ℕ
   pub units : ℕ
   pub state : State
-  pub holds : List Bool
+  pub holds : List ℕ
   pub context : Context
 
 abbrev pub is_ended : State → Bool
@@ -33,7 +34,7 @@ start p t fuel = record {
   fuel = fuel;
   units = fuel;
   state = Running;
-  holds = replicate 256 false;
+  holds = replicate 256 0;
   context = begun (start_of p t.0).func (start_of p t.0).argument;
 }
 
@@ -48,7 +49,7 @@ course_by (Plain b) onwards here = onwards b
 course_by _ onwards here = here
 
 -- with all plain instructions made, each for a unit, up to one that isn't plain or to no units
-abbrev pub course : Code → List Bool → ℕ → Context → Course
+abbrev pub course : Code → List ℕ → ℕ → Context → Course
 course p holds zero b = record { units = 0; context = b }
 course p holds (suc n) b = course_by (next p holds b) (course p holds n) (record { units = suc n; context = b })
 
@@ -63,9 +64,10 @@ rested_in p c _ = c
 abbrev pub rested : Code → Configuration → Configuration
 rested p c = rested_in p c c.state
 
--- what an instruction about a lock leaves: at a Got, a Free and a Took; and at a Miss
+-- what an instruction about a lock leaves: at a Got, a Took and a Free; and at a Miss
 abbrev pub passed : Next → Context → Context
 passed (Wants l after) b = after
+passed (Retakes l after) b = after
 passed (Frees l after) b = after
 passed (Tries l took missed) b = took
 passed _ b = b
@@ -74,13 +76,17 @@ abbrev pub missed : Next → Context → Context
 missed (Tries l took miss) b = miss
 missed _ b = b
 
+-- with a lock held so often
+abbrev pub holding : Lid → ℕ → List ℕ → List ℕ
+holding l n holds = slice_set holds l.0 n
+
 -- the configuration after an own entry, by the next thing
 abbrev pub moved_by : Configuration → Entry → Next → Configuration
 moved_by c (Go t l s) n = record c { units = c.units - 1; state = Waits l }
 moved_by c (Yield t l s sig births) n = record c { units = c.units - 1; state = Yields l }
-moved_by c (Got t l) n = record c { units = c.units - 1; state = Running; holds = slice_set c.holds l.0 true; context = passed n c.context }
-moved_by c (Free t l) n = record c { units = c.units - 1; state = Running; holds = slice_set c.holds l.0 false; context = passed n c.context }
-moved_by c (Took t l s) n = record c { units = c.units - 1; state = Running; holds = slice_set c.holds l.0 true; context = passed n c.context }
+moved_by c (Got t l) n = record c { units = c.units - 1; state = Running; holds = holding l 1 c.holds; context = passed n c.context }
+moved_by c (Free t l) n = record c { units = c.units - 1; state = Running; holds = holding l (times c.holds l.0 - 1) c.holds; context = passed n c.context }
+moved_by c (Took t l s) n = record c { units = c.units - 1; state = Running; holds = holding l (suc (times c.holds l.0)) c.holds; context = passed n c.context }
 moved_by c (Miss t l s why) n = record c { units = c.units - 1; state = Running; context = missed n c.context }
 moved_by c (End t why) n = record c { state = Ended why }
 moved_by c (Break set t) n = c

@@ -1,7 +1,8 @@
 -- What a door tells of the gate.
-use Rattle.std.specs.Prelude.{◌≡◌, ℕ, ◌<◌, ◌+◌, ◌-◌, ◌^◌, nat_lt, ⊤, ◌⊎◌, true, false, if◌then◌else◌, List, [], ◌∷◌, ◌++◌, Option, Some, None}
+use Rattle.std.specs.Prelude.{◌≡◌, ℕ, ◌<◌, ◌≤◌, ◌+◌, ◌-◌, ◌^◌, nat_lt, ⊤, ◌⊎◌, if◌then◌else◌, List, [], ◌∷◌, ◌++◌, Option, Some, None}
 use Rattle.dim_base.specs.declared.Tid.{Tid}
 use Rattle.dim_base.specs.declared.Lid.{Lid}
+use Rattle.dim_stack.specs.declared.Frame.{Frame}
 use Rattle.dim_rag.specs.declared.entry.Entry.{Entry}
 use Rattle.dim_rag.specs.declared.entry.Entry.TheVariants as entry
 use Rattle.dim_rag.specs.declared.entry.MissWhy.TheVariants as miss
@@ -11,9 +12,9 @@ use Rattle.dim_rag.specs.declared.command.Command.{Command}
 use Rattle.dim_rag.specs.declared.command.Command.TheVariants as cmd
 use Rattle.dim_rag.specs.declared.command.Reply.{Reply}
 use Rattle.dim_rag.specs.declared.command.Reply.TheVariants as reply
-use Rattle.dim_rag.specs.History.{past, mode}
+use Rattle.dim_rag.specs.History.{past, count, mode}
 use Rattle.dim_rag.specs.Fits.{YieldsOn, IsAllowedOn}
-use Rattle.dim_vm.specs.Own.{has_lock, IsYieldingOn}
+use Rattle.dim_vm.specs.Own.{IsYieldingOn}
 
 -- what a door has seen: its thread, the number of locks, the thread's own entries, oldest first, the last reply, for how many more entries there is room, and
 -- at how many replies a slice stops
@@ -37,19 +38,30 @@ Runs z = mode_in z ≡ modes.Running
 abbrev pub WasWoken : Seen → Type 0
 WasWoken z = z.last ≡ Some reply.Woken
 
--- the thread holds l by its own entries, or doesn't
+-- how often the thread holds l by its own entries
+abbrev pub times_in : Seen → Lid → ℕ
+times_in z l = count z.thread.0 l.0 (past z.own)
+
+-- it holds l, or doesn't, or holds it and may take it once more
 abbrev pub Holds : Seen → Lid → Type 0
-Holds z l = has_lock z.thread.0 l.0 (past z.own) ≡ true
+Holds z l = 1 ≤ times_in z l
 
 abbrev pub Lacks : Seen → Lid → Type 0
-Lacks z l = has_lock z.thread.0 l.0 (past z.own) ≡ false
+Lacks z l = times_in z l ≡ 0
+
+abbrev pub HoldsFew : Seen → Lid → Type 0
+HoldsFew z l = Holds z l × (times_in z l ≤ 254)
+
+-- the thread runs, or was told by the last reply that it may ask for l with this stack again
+abbrev pub MayAskFor : Seen → Lid → List Frame → Type 0
+MayAskFor z l s = Runs z ⊎ (WasWoken z × YieldsOn z.thread.0 l s (past z.own))
 
 -- what a command needs. A gate refuses none that has it
 abbrev pub MayAsk : Seen → Command → Type 0
-MayAsk z (cmd.Request l s) = (l.0 < z.locks) × Lacks z l × (Runs z ⊎ (WasWoken z × YieldsOn z.thread.0 l s (past z.own)))
+MayAsk z (cmd.Request l s) = (l.0 < z.locks) × ((Lacks z l × MayAskFor z l s) ⊎ (HoldsFew z l × Runs z))
 MayAsk z (cmd.Acquire l) = (l.0 < z.locks) × (IsAllowedOn z.thread.0 l (past z.own) ⊎ IsYieldingOn z.thread.0 l (past z.own))
 MayAsk z (cmd.Release l) = (l.0 < z.locks) × Holds z l × Runs z
-MayAsk z (cmd.Try l s) = (l.0 < z.locks) × Lacks z l × Runs z
+MayAsk z (cmd.Try l s) = (l.0 < z.locks) × (Lacks z l ⊎ HoldsFew z l) × Runs z
 MayAsk z (cmd.End why) = Runs z ⊎ WasWoken z
 MayAsk z (cmd.Break set t) = ⊥
 MayAsk z (cmd.Learn births) = ⊥
@@ -62,15 +74,16 @@ IsAcquired (modes.Yielding l place) (reply.Still cause) = ⊤
 IsAcquired (modes.Yielding l place) reply.Woken = ⊤
 IsAcquired m _ = ⊥
 
--- the replies to a command
+-- the replies to a command. A lock that is held is taken once more
 abbrev pub IsReplyTo : Seen → Command → Reply → Type 0
-IsReplyTo z (cmd.Request l s) reply.Go = ⊤
-IsReplyTo z (cmd.Request l s) (reply.Yield named) = ⊤
+IsReplyTo z (cmd.Request l s) reply.Go = Lacks z l
+IsReplyTo z (cmd.Request l s) (reply.Yield named) = Lacks z l
+IsReplyTo z (cmd.Request l s) reply.Took = Holds z l
 IsReplyTo z (cmd.Acquire l) r = IsAcquired (mode_in z) r
 IsReplyTo z (cmd.Release l) reply.Freed = ⊤
 IsReplyTo z (cmd.Try l s) reply.Took = ⊤
-IsReplyTo z (cmd.Try l s) (reply.MissBusy holder) = ⊤
-IsReplyTo z (cmd.Try l s) (reply.MissAvoid named) = ⊤
+IsReplyTo z (cmd.Try l s) (reply.MissBusy holder) = Lacks z l
+IsReplyTo z (cmd.Try l s) (reply.MissAvoid named) = Lacks z l
 IsReplyTo z (cmd.End why) reply.Ended = ⊤
 IsReplyTo z _ _ = ⊥
 
@@ -78,6 +91,7 @@ IsReplyTo z _ _ = ⊥
 abbrev pub entry_of : Tid → Command → Reply → Option Entry
 entry_of t (cmd.Request l s) reply.Go = Some (entry.Go t l s)
 entry_of t (cmd.Request l s) (reply.Yield named) = Some (entry.Yield t l s named.sig named.births)
+entry_of t (cmd.Request l s) reply.Took = Some (entry.Took t l s)
 entry_of t (cmd.Acquire l) reply.Got = Some (entry.Got t l)
 entry_of t (cmd.Release l) reply.Freed = Some (entry.Free t l)
 entry_of t (cmd.Try l s) reply.Took = Some (entry.Took t l s)

@@ -13,12 +13,15 @@ use Rattle.dim_vm.specs.declared.context.Context.{Context}
 use Rattle.dim_vm.specs.declared.state.State.{State}
 use Rattle.dim_vm.specs.declared.state.State.TheVariants.{Running, Yields}
 use Rattle.dim_vm.specs.Frames.{stack_of}
-use Rattle.dim_vm.specs.Table.{Next, Ends, Wants, Frees, Tries}
+use Rattle.dim_vm.specs.Table.{Next, Ends, Wants, Retakes, Frees, Tries}
 use Rattle.dim_vm.specs.Configuration.{Configuration, next_of, is_ended, led, rested}
 
--- the next thing is to take l, to free it, or to try it
+-- the next thing is to take l that isn't held, to take it once more, to free it, or to try it
 abbrev pub IsWanting : Lid → Next → Type 0
 IsWanting l n = (after : Context) × (n ≡ Wants l after)
+
+abbrev pub IsRetaking : Lid → Next → Type 0
+IsRetaking l n = (after : Context) × (n ≡ Retakes l after)
 
 abbrev pub IsFreeing : Lid → Next → Type 0
 IsFreeing l n = (after : Context) × (n ≡ Frees l after)
@@ -32,7 +35,7 @@ FitsNext units stack may_end (Go t l s) n = (2 ≤ units) × (s ≡ stack) × Is
 FitsNext units stack may_end (Yield t l s sig births) n = (2 ≤ units) × (s ≡ stack) × IsWanting l n
 FitsNext units stack may_end (Got t l) n = (1 ≤ units) × IsWanting l n
 FitsNext units stack may_end (Free t l) n = (1 ≤ units) × IsFreeing l n
-FitsNext units stack may_end (Took t l s) n = (1 ≤ units) × (s ≡ stack) × IsTrying l n
+FitsNext units stack may_end (Took t l s) n = (1 ≤ units) × (s ≡ stack) × (IsTrying l n ⊎ IsRetaking l n)
 FitsNext units stack may_end (Miss t l s why) n = (1 ≤ units) × (s ≡ stack) × IsTrying l n
 FitsNext units stack may_end (End t Spent) n = (units ≡ 0) ⊎ ((units ≡ 1) × may_end × ((l : Lid) × IsWanting l n))
 FitsNext units stack may_end (End t why) n = (1 ≤ units) × (n ≡ Ends why)

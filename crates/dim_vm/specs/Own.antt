@@ -1,12 +1,12 @@
 -- What a thread's own entries say of it.
 -- They are written with the newest first, as a history is. A Break is no entry of its thread: one that was broken out still yields by its own entries.
-use Rattle.std.specs.Prelude.{◌≡◌, ℕ, ⊤, Bool, true, false, List, ◌∷◌}
+use Rattle.std.specs.Prelude.{◌≡◌, ℕ, ⊤, List, ◌∷◌}
 use Rattle.dim_base.specs.declared.Lid.{Lid}
 use Rattle.dim_rag.specs.declared.entry.Entry.{Entry}
-use Rattle.dim_rag.specs.declared.entry.Entry.TheVariants.{Go, Yield, Got, Took, End}
+use Rattle.dim_rag.specs.declared.entry.Entry.TheVariants.{Go, Yield, End}
 use Rattle.dim_rag.specs.declared.entry.Mode.{Mode}
 use Rattle.dim_rag.specs.declared.entry.Mode.TheVariants as modes
-use Rattle.dim_rag.specs.History.{last, mode}
+use Rattle.dim_rag.specs.History.{mode}
 use Rattle.dim_vm.specs.declared.state.State.{State}
 use Rattle.dim_vm.specs.declared.state.State.TheVariants.{Running, Waits, Yields, Ended}
 
@@ -16,16 +16,6 @@ state_by (Go t l s ∷ h) = Waits l
 state_by (Yield t l s sig births ∷ h) = Yields l
 state_by (End t why ∷ h) = Ended why
 state_by _ = Running
-
--- whether a word about a lock, the first entry, leaves the lock held
-abbrev pub is_taking : List Entry → Bool
-is_taking (Got t l ∷ h) = true
-is_taking (Took t l s ∷ h) = true
-is_taking _ = false
-
--- whether t holds l: its latest word about l is a Got or a Took
-abbrev pub has_lock : ℕ → ℕ → List Entry → Bool
-has_lock t l h = is_taking (last t l h)
 
 -- t yields on l
 abbrev pub IsYieldingOn : ℕ → Lid → List Entry → Type 0

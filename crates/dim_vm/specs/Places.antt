@@ -1,5 +1,5 @@
 -- What walks and configurations say of places in a list that is kept oldest first.
-use Rattle.std.specs.Prelude.{◌≡◌, ◌↔◌, ◌⊎◌, ℕ, zero, suc, ◌+◌, ⊤, Bool, List, Some, slice_get}
+use Rattle.std.specs.Prelude.{◌≡◌, ◌↔◌, ◌⊎◌, ℕ, zero, suc, ◌+◌, ⊤, List, Some, slice_get}
 use Rattle.dim_base.specs.declared.Tid.{Tid}
 use Rattle.dim_asm.specs.Code.{Code}
 use Rattle.dim_rag.specs.declared.entry.Entry.{Entry}
@@ -25,7 +25,7 @@ pub record LedLaw : Type 0 where
       → led p t fuel (before (place + 1) own) ≡ rested p (moved p (led p t fuel (before place own)) e)
 
 -- n plain instructions lead from b to b'
-abbrev pub ArePlain : Code → List Bool → ℕ → Context → Context → Type 0
+abbrev pub ArePlain : Code → List ℕ → ℕ → Context → Context → Type 0
 ArePlain p holds zero b b' = b' ≡ b
 ArePlain p holds (suc n) b b' = (c : Context) × (next p holds b ≡ Plain c) × ArePlain p holds n c b'
 
@@ -34,7 +34,7 @@ IsOther (Plain b) = ⊥
 IsOther _ = ⊤
 
 -- plain instructions were made, each for a unit, and no unit is left or the next thing isn't plain
-pub record IsCourse (p : Code) (holds : List Bool) (units : ℕ) (b : Context) (r : Course) : Type 0 where
+pub record IsCourse (p : Code) (holds : List ℕ) (units : ℕ) (b : Context) (r : Course) : Type 0 where
   pub made : ℕ
   pub paid : made + r.units ≡ units
   pub plain : ArePlain p holds made b r.context
@@ -42,4 +42,4 @@ pub record IsCourse (p : Code) (holds : List Bool) (units : ℕ) (b : Context) (
 
 -- there is one such course, and it is the one that a thread takes
 abbrev pub CourseLaw : Type 0
-CourseLaw = (p : Code) (holds : List Bool) (units : ℕ) (b : Context) (r : Course) → (course p holds units b ≡ r) ↔ IsCourse p holds units b r
+CourseLaw = (p : Code) (holds : List ℕ) (units : ℕ) (b : Context) (r : Course) → (course p holds units b ≡ r) ↔ IsCourse p holds units b r

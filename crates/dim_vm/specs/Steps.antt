@@ -10,7 +10,7 @@ use Rattle.dim_vm.specs.declared.context.Context.{Context}
 use Rattle.dim_vm.specs.declared.step.Step.{Step}
 use Rattle.dim_vm.specs.declared.step.Step.TheVariants as step
 use Rattle.dim_vm.specs.Frames.{top_frame, advanced}
-use Rattle.dim_vm.specs.Table.{Next, Plain, Ends, Wants, Frees, Tries, is_held, on, dropped, pushed}
+use Rattle.dim_vm.specs.Table.{Next, Plain, Ends, Wants, Retakes, Frees, Tries, times, on, dropped, pushed}
 
 -- what an instruction leaves that takes or frees a lock, with the top operand dropped or not
 abbrev pub gone : Bool → Context → Context
@@ -21,6 +21,7 @@ abbrev pub told_by : Context → Step → Context → Next
 told_by b step.Plain b' = Plain b'
 told_by b (step.Ends why) b' = Ends why
 told_by b (step.Wants l drops) b' = Wants l (gone drops b)
+told_by b (step.Retakes l drops) b' = Retakes l (gone drops b)
 told_by b (step.Frees l drops) b' = Frees l (gone drops b)
 told_by b (step.Tries l) b' = Tries l (on (pushed (pos 1) b)) (on (pushed (pos 0) b))
 
@@ -45,29 +46,47 @@ IsAfter fs (Ok u) r fs' = (r ≡ Ok step.Plain) × (fs' ≡ advanced fs)
 IsAfter fs (Err k) r fs' = (r ≡ Err k) × (fs' ≡ fs)
 
 -- what an instruction about a lock shows, by what is held
-abbrev pub lock_shows : List Bool → Lid → Bool → Result Step Trap
-lock_shows holds l drops = if is_held holds l.0 then Err Relock else Ok (step.Wants l drops)
+abbrev pub lock_shows : List ℕ → Lid → Bool → Result Step Trap
+lock_shows holds l drops =
+    if nat_lt (times holds l.0) 255 then (if nat_lt 0 (times holds l.0) then Ok (step.Retakes l drops) else Ok (step.Wants l drops)) else Err Relock
 
-abbrev pub unlock_shows : List Bool → Lid → Bool → Result Step Trap
-unlock_shows holds l drops = if is_held holds l.0 then Ok (step.Frees l drops) else Err NotOwner
+abbrev pub unlock_shows : List ℕ → Lid → Bool → Result Step Trap
+unlock_shows holds l drops = if nat_lt 0 (times holds l.0) then Ok (step.Frees l drops) else Err NotOwner
 
-abbrev pub try_shows : List Bool → Lid → List ℤ → Result Step Trap
-try_shows holds l ns = if is_held holds l.0 then Err Relock else (if nat_lt (length ns) 256 then Ok (step.Tries l) else Err Over)
+abbrev pub tried_shows : Lid → List ℤ → Result Step Trap
+tried_shows l ns = if nat_lt (length ns) 256 then Ok (step.Tries l) else Err Over
 
--- a lock that is next, where it is held or isn't
-pub record IsAtLock (p : Code) (holds : List Bool) (b : Context) (l : Lid) (held : Bool) : Type 0 where
+abbrev pub try_shows : List ℕ → Lid → List ℤ → Result Step Trap
+try_shows holds l ns = if nat_lt (times holds l.0) 255 then tried_shows l ns else Err Relock
+
+-- how often a lock is held that isn't held, that may be taken, that is held and may be taken once more, and that may be freed
+abbrev pub IsFree : ℕ → Type 0
+IsFree n = n ≡ 0
+
+abbrev pub IsOpen : ℕ → Type 0
+IsOpen n = n < 255
+
+abbrev pub IsAgain : ℕ → Type 0
+IsAgain n = (1 ≤ n) × (n < 255)
+
+abbrev pub IsHeld : ℕ → Type 0
+IsHeld n = 1 ≤ n
+
+-- a lock that is next, held so often
+pub record IsAtLock (p : Code) (holds : List ℕ) (b : Context) (l : Lid) (Held : ℕ → Type 0) : Type 0 where
   pub in_range : l.0 < lock_count p
   pub low : l.0 < 256
-  pub held_is : is_held holds l.0 ≡ held
+  pub held : Held (times holds l.0)
   pub at : (top_frame b.frames).at < 65536
 
 -- what is known of the next thing
-abbrev pub IsFound : Code → List Bool → Context → Next → Type 0
+abbrev pub IsFound : Code → List ℕ → Context → Next → Type 0
 IsFound p holds b (Plain b') = b'.said ≤ b.said + 1
 IsFound p holds b (Ends why) = why ≢ Spent
-IsFound p holds b (Wants l after) = IsAtLock p holds b l false
-IsFound p holds b (Frees l after) = IsAtLock p holds b l true
-IsFound p holds b (Tries l took missed) = IsAtLock p holds b l false × (length b.operands < 256)
+IsFound p holds b (Wants l after) = IsAtLock p holds b l IsFree
+IsFound p holds b (Retakes l after) = IsAtLock p holds b l IsAgain
+IsFound p holds b (Frees l after) = IsAtLock p holds b l IsHeld
+IsFound p holds b (Tries l took missed) = IsAtLock p holds b l IsOpen × (length b.operands < 256)
 
 -- what a step has paid
 abbrev pub paid : Step → ℕ

@@ -1,5 +1,5 @@
 -- What a thread does next: the table of the instructions.
-use Rattle.std.specs.Prelude.{ℕ, ◌+◌, nat_lt, Bool, false, if◌then◌else◌, List, [], ◌∷◌, length, slice_index_or, Option, Some, None, Result, Ok, Err, ℤ, pos}
+use Rattle.std.specs.Prelude.{ℕ, ◌+◌, nat_lt, if◌then◌else◌, List, [], ◌∷◌, length, slice_index_or, Option, Some, None, Result, Ok, Err, ℤ, pos}
 use Rattle.dim_base.specs.declared.Lid.{Lid}
 use Rattle.dim_asm.specs.declared.op.Op.{Op}
 use Rattle.dim_asm.specs.declared.op.Op.TheVariants as op
@@ -19,17 +19,18 @@ abbrev pub begun : ℕ → ℤ → Context
 begun f n = record { frames = entered f ∷ []; operands = n ∷ []; said = 0; last = pos 0 }
 
 -- a plain instruction, with what it leaves; an ending; or an instruction about a lock, with the lock and what it leaves:
--- at a Got, at a Free, and at a Took and a Miss
+-- at a Got, at a Took of a lock that is held, at a Free, and at a Took and a Miss of a lock that is tried
 pub data Next : Type 0 where
   Plain : Context → Next
   Ends : Why → Next
   Wants : Lid → Context → Next
+  Retakes : Lid → Context → Next
   Frees : Lid → Context → Next
   Tries : Lid → Context → Context → Next
 
--- whether a lock is held, by the table of holds
-abbrev pub is_held : List Bool → ℕ → Bool
-is_held holds l = slice_index_or holds l false
+-- how often a lock is held, by the table of holds
+abbrev pub times : List ℕ → ℕ → ℕ
+times holds l = slice_index_or holds l 0
 
 abbrev pub jump : ℕ → Context → Context
 jump k b = record b { frames = at_offset k b.frames }
@@ -76,17 +77,22 @@ jump_if_zero k b = top b.operands >>= λ n. Ok (Plain (if is_zero n then jump k 
 abbrev pub return : Context → Next
 return b = if nat_lt 1 (length b.frames) then Plain (on (record b { frames = rest b.frames })) else Ends Done
 
-abbrev pub lock_next : List Bool → Lid → Context → Result Next Trap
-lock_next holds l after = if is_held holds l.0 then Err Relock else Ok (Wants l after)
+-- a lock that is held 255 times, and no more, isn't taken again
+abbrev pub lock_next : List ℕ → Lid → Context → Result Next Trap
+lock_next holds l after =
+    if nat_lt (times holds l.0) 255 then (if nat_lt 0 (times holds l.0) then Ok (Retakes l after) else Ok (Wants l after)) else Err Relock
 
-abbrev pub unlock_next : List Bool → Lid → Context → Result Next Trap
-unlock_next holds l after = if is_held holds l.0 then Ok (Frees l after) else Err NotOwner
+abbrev pub unlock_next : List ℕ → Lid → Context → Result Next Trap
+unlock_next holds l after = if nat_lt 0 (times holds l.0) then Ok (Frees l after) else Err NotOwner
 
-abbrev pub try_next : List Bool → Lid → Context → Result Next Trap
-try_next holds l b = if is_held holds l.0 then Err Relock else (if nat_lt (length b.operands) 256 then Ok (Tries l (on (pushed (pos 1) b)) (on (pushed (pos 0) b))) else Err Over)
+abbrev pub tried_next : Lid → Context → Result Next Trap
+tried_next l b = if nat_lt (length b.operands) 256 then Ok (Tries l (on (pushed (pos 1) b)) (on (pushed (pos 0) b))) else Err Over
+
+abbrev pub try_next : List ℕ → Lid → Context → Result Next Trap
+try_next holds l b = if nat_lt (times holds l.0) 255 then tried_next l b else Err Relock
 
 -- the row of an instruction
-abbrev pub row : Code → List Bool → Context → Op → Result Next Trap
+abbrev pub row : Code → List ℕ → Context → Op → Result Next Trap
 row p holds b (op.Push n) = operated b (push n b.operands)
 row p holds b op.Pop = operated b (pop b.operands)
 row p holds b op.Dup = operated b (duplicate b.operands)
@@ -110,7 +116,7 @@ row p holds b op.Say = say b
 row p holds b op.Halt = Ok (Ends Done)
 
 -- the row of the instruction that is there
-abbrev pub row_at : Code → List Bool → Context → Option Op → Result Next Trap
+abbrev pub row_at : Code → List ℕ → Context → Option Op → Result Next Trap
 row_at p holds b None = Err FellOff
 row_at p holds b (Some o) = row p holds b o
 
@@ -120,9 +126,9 @@ ended_by (Ok n) = n
 ended_by (Err k) = Ends (Trapped (number k))
 
 -- the row of the instruction that a context is at
-abbrev pub row_here : Code → List Bool → Context → Result Next Trap
+abbrev pub row_here : Code → List ℕ → Context → Result Next Trap
 row_here p holds b = row_at p holds b (op_at p (top_frame b.frames).func (top_frame b.frames).at)
 
 -- the next thing of a thread with units, by what it holds
-abbrev pub next : Code → List Bool → Context → Next
+abbrev pub next : Code → List ℕ → Context → Next
 next p holds b = ended_by (row_here p holds b)

@@ -1,5 +1,5 @@
 -- What the parts of a turn do.
-use Rattle.std.specs.Prelude.{◌≡◌, ℕ, ◌≤◌, ◌+◌, ◌-◌, ⊤, Bool, true, false, slice_set, pos}
+use Rattle.std.specs.Prelude.{◌≡◌, ℕ, suc, ◌≤◌, ◌+◌, ◌-◌, ⊤, Bool, false, pos}
 use Rattle.dim_base.specs.declared.Lid.{Lid}
 use Rattle.dim_asm.specs.Code.{Code, lock_count}
 use Rattle.dim_rag.specs.declared.command.Command.{Command}
@@ -12,9 +12,9 @@ use Rattle.dim_vm.specs.declared.state.Turn.{Turn}
 use Rattle.dim_vm.specs.declared.state.Turn.TheVariants as turn
 use Rattle.dim_vm.specs.declared.step.Step.{Step}
 use Rattle.dim_vm.specs.Frames.{stack_of}
-use Rattle.dim_vm.specs.Table.{on, pushed}
+use Rattle.dim_vm.specs.Table.{on, pushed, times}
 use Rattle.dim_vm.specs.Steps.{Shows, IsFound, told_by, paid, gone}
-use Rattle.dim_vm.specs.Configuration.{Configuration, next_of, is_ended}
+use Rattle.dim_vm.specs.Configuration.{Configuration, next_of, is_ended, holding}
 use Rattle.dim_vm.specs.Door.{Seen, WasWoken, WasStopped}
 use Rattle.dim_vm.specs.Fitting.{FitsMachine}
 use Rattle.dim_vm.specs.Moves.{Place, Move, Finish}
@@ -37,18 +37,30 @@ abbrev pub asked : Lid → Configuration → Reply → Configuration
 asked l c reply.Go = record c { units = c.units - 1; state = Waits l }
 asked l c _ = record c { units = c.units - 1; state = Yields l }
 
--- behind an instruction that took l or gave it back
-abbrev pub behind_lock : Lid → Bool → Bool → Configuration → Configuration
-behind_lock l held drops c = record c { units = c.units - 1; state = Running; holds = slice_set c.holds l.0 held; context = gone drops c.context }
+-- behind an instruction that took l or gave it back, which leaves it held so often
+abbrev pub behind_lock : Lid → ℕ → Bool → Configuration → Configuration
+behind_lock l n drops c = record c { units = c.units - 1; state = Running; holds = holding l n c.holds; context = gone drops c.context }
 
 -- after the reply to an Acquire of l
 abbrev pub acquired : Lid → Bool → Configuration → Reply → Configuration
-acquired l drops c reply.Got = behind_lock l true drops c
+acquired l drops c reply.Got = behind_lock l 1 drops c
 acquired l drops c _ = c
+
+-- after l was taken once more, and after it was given back once
+abbrev pub retaken : Lid → Bool → Configuration → Configuration
+retaken l drops c = behind_lock l (suc (times c.holds l.0)) drops c
+
+abbrev pub released : Lid → Bool → Configuration → Configuration
+released l drops c = behind_lock l (times c.holds l.0 - 1) drops c
 
 -- after the reply to a Try of l
 abbrev pub tried : Lid → Configuration → Reply → Configuration
-tried l c reply.Took = record c { units = c.units - 1; state = Running; holds = slice_set c.holds l.0 true; context = on (pushed (pos 1) c.context) }
+tried l c reply.Took = record c {
+  units = c.units - 1;
+  state = Running;
+  holds = holding l (suc (times c.holds l.0)) c.holds;
+  context = on (pushed (pos 1) c.context);
+}
 tried l c _ = record c { units = c.units - 1; state = Running; context = on (pushed (pos 0) c.context) }
 
 -- a turn leads from a to b

@@ -10,34 +10,41 @@ use crate::trap::Trap;
 use dim_asm::Program;
 use dim_base::Lid;
 
+/// How often a thread may hold a lock.
+const MOST_HOLDS: u8 = 255;
+
 /// LOCK, and LOCKX where the lock was an operand, which drops then.
-pub fn want(holds: &[bool], l: Lid, drops: bool) -> Result<Step, Trap>
+pub fn want(holds: &[u8], l: Lid, drops: bool) -> Result<Step, Trap>
     requires { l.0 < length holds.now }
     ensures { result ≡ lock_shows holds.now l drops }
 {
-    if holds[l.0 as usize] {
+    let times = holds[l.0 as usize];
+    if times >= MOST_HOLDS {
         return Err(Trap::Relock);
+    }
+    if times > 0 {
+        return Ok(Step::Retakes { l, drops });
     }
     Ok(Step::Wants { l, drops })
 }
 
 /// UNLOCK, and UNLOCKX where the lock was an operand, which drops then.
-pub fn free(holds: &[bool], l: Lid, drops: bool) -> Result<Step, Trap>
+pub fn free(holds: &[u8], l: Lid, drops: bool) -> Result<Step, Trap>
     requires { l.0 < length holds.now }
     ensures { result ≡ unlock_shows holds.now l drops }
 {
-    if !holds[l.0 as usize] {
+    if holds[l.0 as usize] == 0 {
         return Err(Trap::NotOwner);
     }
     Ok(Step::Frees { l, drops })
 }
 
 /// TRYLOCK, which needs room for an operand.
-pub fn attempt(holds: &[bool], l: Lid, operands: &Operands) -> Result<Step, Trap>
+pub fn attempt(holds: &[u8], l: Lid, operands: &Operands) -> Result<Step, Trap>
     requires { l.0 < length holds.now }
     ensures { result ≡ try_shows holds.now l operands.now }
 {
-    if holds[l.0 as usize] {
+    if holds[l.0 as usize] >= MOST_HOLDS {
         return Err(Trap::Relock);
     }
     if operands.is_full() {

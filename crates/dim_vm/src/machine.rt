@@ -26,7 +26,8 @@ pub struct Machine {
     fuel: u32,
     units: u32,
     state: State,
-    holds: [bool; 256],
+    /// How often it holds each lock.
+    holds: [u8; 256],
     context: Context,
 }
 
@@ -54,7 +55,7 @@ impl Machine {
             fuel,
             units: fuel,
             state: State::Running,
-            holds: [false; 256],
+            holds: [0; 256],
             context: Context::new(func, argument),
         }
     }

@@ -15,7 +15,7 @@ use dim_rag::Why;
 
 impl Context {
     /// Makes the next instruction if it is plain, and else shows what it is.
-    pub fn step(&mut self, program: &Program, holds: &[bool]) -> Step
+    pub fn step(&mut self, program: &Program, holds: &[u8]) -> Step
         requires said { self.old.said < 2 ^ 63 }
         requires holds { length holds.now ≡ 256 }
         ensures step { Shows self.old (table.next program.now holds.now self.old) result self.new }
@@ -32,7 +32,7 @@ impl Context {
     }
 
     /// The row of the instruction that is there.
-    fn row_here(&mut self, program: &Program, holds: &[bool]) -> Result<Step, Trap>
+    fn row_here(&mut self, program: &Program, holds: &[u8]) -> Result<Step, Trap>
         requires said { self.old.said < 2 ^ 63 }
         requires holds { length holds.now ≡ 256 }
         ensures row { IsRow self.old (table.row_here program.now holds.now self.old) result
@@ -48,7 +48,7 @@ impl Context {
     }
 
     /// The row of an instruction.
-    fn row(&mut self, program: &Program, holds: &[bool], op: Op) -> Result<Step, Trap>
+    fn row(&mut self, program: &Program, holds: &[u8], op: Op) -> Result<Step, Trap>
         requires said { self.old.said < 2 ^ 63 }
         requires holds { length holds.now ≡ 256 }
         requires at { (top_frame self.old.frames).at < 65536 }

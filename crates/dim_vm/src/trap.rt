@@ -15,7 +15,7 @@ pub enum Trap {
     Local = 5,
     /// The number is no lock of the program.
     NoLock = 6,
-    /// The thread holds the lock already.
+    /// The thread holds the lock 255 times.
     Relock = 7,
     /// The thread doesn't hold the lock.
     NotOwner = 8,

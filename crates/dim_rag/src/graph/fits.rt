@@ -3,10 +3,11 @@ ghost use Rattle.std.specs.Prelude.{◌≡◌, ◌<◌, ◌↔◌, IsTrue};
 ghost use Rattle.dim_rag.specs.declared.entry.Mode.TheVariants.{Running};
 ghost use Rattle.dim_rag.specs.History.{past, mode, latest_wish};
 ghost use Rattle.dim_rag.specs.Asks.{may_ask, IsReady};
-ghost use Rattle.dim_rag.specs.Fits.{FitsAfter, IsInRange, IsYielding, IsAllowedOn};
+ghost use Rattle.dim_rag.specs.Fits.{FitsAfter, IsInRange, IsYielding, IsAllowedOn, MayTake};
 
 use crate::entry::{Entry, Mode};
 use crate::graph::Graph;
+use crate::graph::row::may_take;
 use dim_base::{Lid, Tid};
 use dim_stack::Stack;
 
@@ -48,7 +49,7 @@ impl Graph {
             }
             Entry::Got { t, l } => self.is_allowed_on(*t, *l) && self.holder(*l).is_none(),
             Entry::Free { t, l } => self.runs(*t) && self.hold_of(*t, *l).is_some(),
-            Entry::Took { t, l, .. } => self.runs(*t) && self.holder(*l).is_none(),
+            Entry::Took { t, l, .. } => self.runs(*t) && self.may_take(*t, *l),
             Entry::Miss { t, l, .. } => self.runs(*t) && self.hold_of(*t, *l).is_none(),
             Entry::End { t, .. } => self.runs(*t) || self.yields(*t),
             Entry::Break { t, .. } => self.yields(*t),
@@ -78,6 +79,14 @@ impl Graph {
         ensures { IsTrue result ↔ IsAllowedOn t.0 l (past self.now.entries) }
     {
         matches!(self.mode(t), Mode::Allowed { l: m, .. } if m == l)
+    }
+
+    /// Whether a lock is free, or held by a thread that may take it once more.
+    fn may_take(&self, t: Tid, l: Lid) -> bool
+        requires { l.0 < self.now.locks }
+        ensures { IsTrue result ↔ MayTake t.0 l.0 (past self.now.entries) }
+    {
+        may_take(t, &self.holders[l.0 as usize], self.counts[l.0 as usize])
     }
 
     /// Whether a thread runs, or yields on this lock with this stack.

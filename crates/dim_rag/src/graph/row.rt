@@ -1,10 +1,11 @@
 //! What is kept of a thread and of a lock, and what an entry changes of it.
-ghost use Rattle.std.specs.Prelude.{◌≡◌, vec_len, option_map};
+ghost use Rattle.std.specs.Prelude.{◌≡◌, ◌≤◌, vec_len, option_map};
 ghost use Rattle.dim_rag.specs.declared.entry.Edge.{Edge};
 ghost use Rattle.dim_rag.specs.Fits.{IsInRange};
 ghost use Rattle.dim_rag.specs.Tables.{thread_of, held_by};
 ghost use Rattle.dim_rag.specs.Born.{with_birth};
 ghost use Rattle.dim_rag.specs.Rows.{idle_row, lock_of, edge_in, broken, row_after, holder_after, rows_after, holders_after, row_may_ask};
+ghost use Rattle.dim_rag.specs.Rows.{HasRoom, count_before, count_after, counts_after, is_quiet, may_take_by};
 
 use crate::births::Births;
 use crate::entry::{Edge, Entry, Mode};
@@ -135,6 +136,19 @@ pub fn held_by(t: Tid, holder: Option<Edge>) -> Option<Edge>
     }
 }
 
+/// How often a thread may hold a lock.
+const MOST_HOLDS: u8 = 255;
+
+/// Whether a thread may take a lock at once which has this holder and is held so often.
+pub fn may_take(t: Tid, holder: &Option<Edge>, count: u8) -> bool
+    ensures { result ≡ may_take_by t.0 holder.now count }
+{
+    match holder {
+        None => true,
+        Some(e) => e.t.0 == t.0 && count < MOST_HOLDS,
+    }
+}
+
 /// The thread of an edge, if there is one.
 pub fn owner_of(edge: &Option<Edge>) -> Option<Tid>
     ensures { result ≡ option_map (λ (e : Edge). e.t) edge.now }
@@ -155,18 +169,55 @@ pub fn birth_held_by(t: Tid, holder: &Option<Edge>) -> Option<u32>
     }
 }
 
-/// Writes into the rows and the holders what an entry changes.
-pub fn replay(rows: &mut Vec<Row>, holders: &mut Vec<Option<Edge>>, e: &Entry, place: u32)
-    requires { IsInRange (vec_len rows.old) (vec_len holders.old) e.now }
+/// Writes into the rows, the holders and the counts what an entry changes.
+pub fn replay(
+    rows: &mut Vec<Row>,
+    holders: &mut Vec<Option<Edge>>,
+    counts: &mut Vec<u8>,
+    e: &Entry,
+    place: u32,
+)
+    requires in_range { IsInRange (vec_len rows.old) (vec_len holders.old) e.now }
+    requires each { vec_len counts.old ≡ vec_len holders.old }
+    requires room { HasRoom e.now (count_before counts.old.items e.now) }
     ensures rows { rows.new.items ≡ rows_after rows.old.items e.now place }
-    ensures holders { holders.new.items ≡ holders_after rows.old.items holders.old.items e.now
-        place }
+    ensures holders { holders.new.items
+        ≡ holders_after rows.old.items holders.old.items counts.old.items e.now place }
+    ensures counts { counts.new.items ≡ counts_after counts.old.items e.now }
 {
     if let Some(t) = thread_of(e) {
         if let Some(l) = lock_of(e) {
-            holders[l.0 as usize] = rows[t.0 as usize].holder_after(e, place);
+            let count = counts[l.0 as usize];
+            if !is_quiet(e, count) {
+                holders[l.0 as usize] = rows[t.0 as usize].holder_after(e, place);
+            }
+            counts[l.0 as usize] = count_after(e, count);
         }
         rows[t.0 as usize].step(e, place);
+    }
+}
+
+/// How often its lock is held after an entry, where it was held so often before.
+fn count_after(e: &Entry, count: u8) -> u8
+    requires { HasRoom e.now count }
+    ensures { result ≡ count_after e.now count }
+{
+    match e {
+        Entry::Got { .. } => 1,
+        Entry::Took { .. } => count + 1,
+        Entry::Free { .. } => count.saturating_sub(1),
+        _ => count,
+    }
+}
+
+/// Whether an entry, whose lock is held so often before it, changes but the count.
+fn is_quiet(e: &Entry, count: u8) -> bool
+    ensures { result ≡ is_quiet e.now count }
+{
+    match e {
+        Entry::Took { .. } => count > 0,
+        Entry::Free { .. } => count > 1,
+        _ => false,
     }
 }
 
@@ -187,7 +238,7 @@ fn thread_of(e: &Entry) -> Option<Tid>
     }
 }
 
-/// The lock whose holder an entry changes.
+/// The lock that an entry takes or frees.
 fn lock_of(e: &Entry) -> Option<Lid>
     ensures { result ≡ lock_of e.now }
 {

@@ -1,9 +1,10 @@
 //! What a machine asks, one command in each function, and what it does at the reply.
-ghost use Rattle.std.specs.Prelude.{◌≡◌, ◌<◌, ◌≤◌, ◌-◌, false, length};
+ghost use Rattle.std.specs.Prelude.{◌≡◌, ◌<◌, ◌≤◌, ◌-◌, length};
 ghost use Rattle.dim_rag.specs.declared.command.Reply.TheVariants as reply;
-ghost use Rattle.dim_vm.specs.Door.{MayAsk, IsReplyTo, told, IsStop};
+ghost use Rattle.dim_vm.specs.Door.{Holds, MayAsk, IsReplyTo, told, IsStop};
 ghost use Rattle.dim_vm.specs.Frames.{top_frame};
-ghost use Rattle.dim_vm.specs.Turns.{request_of, attempt_of, asked, acquired, behind_lock, tried};
+ghost use Rattle.dim_vm.specs.Table.{times};
+ghost use Rattle.dim_vm.specs.Turns.{request_of, attempt_of, asked, acquired, behind_lock, retaken, released, tried};
 
 use crate::door::Door;
 use crate::machine::Machine;
@@ -50,9 +51,29 @@ impl Machine {
     {
         let reply = door.ask(Command::Acquire { l });
         if let Reply::Got = &reply {
-            self.pass(l, true, drops);
+            self.pass(l, 1, drops);
         }
         reply
+    }
+
+    /// Takes a lock that it holds once more, for a unit.
+    pub(super) fn retake<D: Door>(&mut self, program: &Program, door: &mut D, l: Lid, drops: bool)
+        requires room { 1 ≤ (D.seen door.old).left }
+        requires units { 1 ≤ self.old.units }
+        requires lock { l.0 < 256 }
+        requires few { times self.old.holds l.0 < 255 }
+        requires at { (top_frame self.old.context.frames).at < 65536 }
+        requires may { MayAsk (D.seen door.old) (request_of program.now self.old l) }
+        requires holds { Holds (D.seen door.old) l }
+        ensures value { self.new ≡ retaken l drops self.old }
+        ensures seen { D.seen door.new ≡ told (D.seen door.old) (request_of program.now self.old l)
+            reply.Took }
+        ensures reaches { D.reaches door.old door.new }
+    {
+        let stack = self.context.frames.stack(program);
+        let _took = door.ask(Command::Request { l, stack });
+        let times = self.holds[l.0 as usize] + 1;
+        self.pass(l, times, drops);
     }
 
     /// Gives a lock back, for a unit.
@@ -62,12 +83,13 @@ impl Machine {
         requires lock { l.0 < 256 }
         requires at { (top_frame self.old.context.frames).at < 65536 }
         requires may { MayAsk (D.seen door.old) (Command.Release l) }
-        ensures value { self.new ≡ behind_lock l false drops self.old }
+        ensures value { self.new ≡ released l drops self.old }
         ensures seen { D.seen door.new ≡ told (D.seen door.old) (Command.Release l) reply.Freed }
         ensures reaches { D.reaches door.old door.new }
     {
         let _freed = door.ask(Command::Release { l });
-        self.pass(l, false, drops);
+        let times = self.holds[l.0 as usize].saturating_sub(1);
+        self.pass(l, times, drops);
     }
 
     /// Tries to take a lock, for a unit, and goes on with an operand that says whether it has.
@@ -76,6 +98,7 @@ impl Machine {
         requires units { 1 ≤ self.old.units }
         requires lock { l.0 < 256 }
         requires at { (top_frame self.old.context.frames).at < 65536 }
+        requires few { times self.old.holds l.0 < 255 }
         requires operands { length self.old.context.operands < 256 }
         requires may { MayAsk (D.seen door.old) (attempt_of program.now self.old l) }
         ensures reply { IsReplyTo (D.seen door.old) (attempt_of program.now self.old l) result }
@@ -89,7 +112,7 @@ impl Machine {
         self.pay();
         match &reply {
             Reply::Took => {
-                self.holds[l.0 as usize] = true;
+                self.holds[l.0 as usize] += 1;
                 self.context.go_on_with(1);
             }
             _ => self.context.go_on_with(0),
@@ -110,15 +133,15 @@ impl Machine {
         self.state = State::Ended { why };
     }
 
-    /// Goes on behind an instruction that took a lock or gave it back.
-    pub(super) fn pass(&mut self, l: Lid, held: bool, drops: bool)
+    /// Goes on behind an instruction that took a lock or gave it back, which it holds so often now.
+    pub(super) fn pass(&mut self, l: Lid, times: u8, drops: bool)
         requires units { 1 ≤ self.old.units }
         requires lock { l.0 < 256 }
         requires at { (top_frame self.old.context.frames).at < 65536 }
-        ensures { self.new ≡ behind_lock l held drops self.old }
+        ensures { self.new ≡ behind_lock l times drops self.old }
     {
         self.pay();
-        self.holds[l.0 as usize] = held;
+        self.holds[l.0 as usize] = times;
         self.context.go_past(drops);
     }
 

@@ -1,13 +1,14 @@
 //! A machine that goes on by entries that were made before.
-ghost use Rattle.std.specs.Prelude.{◌≡◌, ◌≢◌, ◌<◌, ◌≤◌, ◌-◌, ◌↔◌, IsTrue, Some, pos, false, true, length, slice_set};
+ghost use Rattle.std.specs.Prelude.{◌≡◌, ◌≢◌, ◌<◌, ◌≤◌, ◌-◌, ◌↔◌, ◌⊎◌, IsTrue, Some, suc, pos, false, length};
 ghost use Rattle.dim_base.specs.declared.Lid.{Lid};
 ghost use Rattle.dim_rag.specs.Tables.{thread_of};
-ghost use Rattle.dim_vm.specs.Configuration.{is_ended, next_of, rested, moved, moved_by};
-ghost use Rattle.dim_vm.specs.Fitting.{FitsEntry, FitsNext, IsWanting, IsFreeing, IsTrying};
+ghost use Rattle.dim_vm.specs.Configuration.{is_ended, next_of, rested, moved, moved_by, holding, passed};
+ghost use Rattle.dim_vm.specs.Fitting.{FitsEntry, FitsNext, IsWanting, IsRetaking, IsFreeing, IsTrying};
 ghost use Rattle.dim_vm.specs.Following.{FitsEnd, IsSafe, IsSpending, Tells, drops_at};
 ghost use Rattle.dim_vm.specs.Frames.{stack_of, top_frame};
 ghost use Rattle.dim_vm.specs.Steps.{IsFound, told_by};
-ghost use Rattle.dim_vm.specs.Table.{Ends, on, pushed};
+ghost use Rattle.dim_vm.specs.Table.{Ends, on, pushed, times};
+ghost use Rattle.dim_vm.specs.Turns.{released, retaken};
 
 use crate::machine::Machine;
 use crate::state::State;
@@ -142,7 +143,10 @@ impl Machine {
             }
             Entry::Got { l, .. } => self.units >= 1 && self.wants(step, *l),
             Entry::Free { l, .. } => self.units >= 1 && self.frees(step, *l),
-            Entry::Took { l, stack, .. } | Entry::Miss { l, stack, .. } => {
+            Entry::Took { l, stack, .. } => {
+                self.units >= 1 && self.has_stack(program, stack) && self.takes(step, *l)
+            }
+            Entry::Miss { l, stack, .. } => {
                 self.units >= 1 && self.has_stack(program, stack) && self.tries(step, *l)
             }
             Entry::End { why, .. } => self.may_end(step, *why, may_end),
@@ -164,7 +168,11 @@ impl Machine {
     {
         match step {
             Step::Wants { l: m, .. } => *m == l,
-            Step::Plain | Step::Ends { .. } | Step::Frees { .. } | Step::Tries { .. } => false,
+            Step::Plain
+            | Step::Ends { .. }
+            | Step::Retakes { .. }
+            | Step::Frees { .. }
+            | Step::Tries { .. } => false,
         }
     }
 
@@ -174,7 +182,34 @@ impl Machine {
     {
         match step {
             Step::Frees { l: m, .. } => *m == l,
-            Step::Plain | Step::Ends { .. } | Step::Wants { .. } | Step::Tries { .. } => false,
+            Step::Plain
+            | Step::Ends { .. }
+            | Step::Wants { .. }
+            | Step::Retakes { .. }
+            | Step::Tries { .. } => false,
+        }
+    }
+
+    /// Whether a step is to try a lock, or to take it once more.
+    fn takes(&self, step: &Step, l: Lid) -> bool
+        ensures { IsTrue result ↔ (IsTrying l (told_by self.now.context step.now self.now.context)
+            ⊎ IsRetaking l (told_by self.now.context step.now self.now.context)) }
+    {
+        self.tries(step, l) || self.retakes(step, l)
+    }
+
+    /// Whether a step is to take a lock once more.
+    fn retakes(&self, step: &Step, l: Lid) -> bool
+        ensures { IsTrue result
+            ↔ IsRetaking l (told_by self.now.context step.now self.now.context) }
+    {
+        match step {
+            Step::Retakes { l: m, .. } => *m == l,
+            Step::Plain
+            | Step::Ends { .. }
+            | Step::Wants { .. }
+            | Step::Frees { .. }
+            | Step::Tries { .. } => false,
         }
     }
 
@@ -184,7 +219,11 @@ impl Machine {
     {
         match step {
             Step::Tries { l: m } => *m == l,
-            Step::Plain | Step::Ends { .. } | Step::Wants { .. } | Step::Frees { .. } => false,
+            Step::Plain
+            | Step::Ends { .. }
+            | Step::Wants { .. }
+            | Step::Retakes { .. }
+            | Step::Frees { .. } => false,
         }
     }
 
@@ -195,7 +234,11 @@ impl Machine {
     {
         match step {
             Step::Wants { .. } => true,
-            Step::Plain | Step::Ends { .. } | Step::Frees { .. } | Step::Tries { .. } => false,
+            Step::Plain
+            | Step::Ends { .. }
+            | Step::Retakes { .. }
+            | Step::Frees { .. }
+            | Step::Tries { .. } => false,
         }
     }
 
@@ -205,7 +248,11 @@ impl Machine {
     {
         match step {
             Step::Ends { why: k } => *k == why,
-            Step::Plain | Step::Wants { .. } | Step::Frees { .. } | Step::Tries { .. } => false,
+            Step::Plain
+            | Step::Wants { .. }
+            | Step::Retakes { .. }
+            | Step::Frees { .. }
+            | Step::Tries { .. } => false,
         }
     }
 
@@ -225,16 +272,16 @@ impl Machine {
     fn go_by(&mut self, step: &Step, e: &Entry)
         requires units { 1 ≤ self.old.units }
         requires tells { Tells e.now (told_by self.old.context step.now self.old.context) }
-        requires safe { IsSafe self.old.context step.now }
+        requires safe { IsSafe self.old.holds self.old.context step.now }
         ensures { self.new
             ≡ moved_by self.old e.now (told_by self.old.context step.now self.old.context) }
     {
         match e {
             Entry::Go { l, .. } => self.stand(State::Waits { l: *l }),
             Entry::Yield { l, .. } => self.stand(State::Yields { l: *l }),
-            Entry::Got { l, .. } => self.pass(*l, true, drops(step)),
-            Entry::Free { l, .. } => self.pass(*l, false, drops(step)),
-            Entry::Took { l, .. } => self.take_tried(*l),
+            Entry::Got { l, .. } => self.pass(*l, 1, drops(step)),
+            Entry::Free { l, .. } => self.give_back(*l, drops(step)),
+            Entry::Took { l, .. } => self.take_by(step, *l),
             Entry::Miss { .. } => self.miss(),
             Entry::End { why, .. } => self.state = State::Ended { why: *why },
             Entry::Break { .. } | Entry::Learn { .. } => {}
@@ -250,23 +297,67 @@ impl Machine {
         self.state = state;
     }
 
+    /// Goes on behind an instruction that gave a lock back, for a unit.
+    fn give_back(&mut self, l: Lid, drops: bool)
+        requires units { 1 ≤ self.old.units }
+        requires lock { l.0 < 256 }
+        requires at { (top_frame self.old.context.frames).at < 65536 }
+        ensures { self.new ≡ released l drops self.old }
+    {
+        let times = self.holds[l.0 as usize].saturating_sub(1);
+        self.pass(l, times, drops);
+    }
+
+    /// Goes on behind a step that took a lock at once, for a unit.
+    fn take_by(&mut self, step: &Step, l: Lid)
+        requires units { 1 ≤ self.old.units }
+        requires tells { IsTrying l (told_by self.old.context step.now self.old.context)
+            ⊎ IsRetaking l (told_by self.old.context step.now self.old.context) }
+        requires safe { IsSafe self.old.holds self.old.context step.now }
+        ensures { self.new ≡ record self.old {
+          units = self.old.units - 1;
+          state = State.Running;
+          holds = holding l (suc (times self.old.holds l.0)) self.old.holds;
+          context = passed (told_by self.old.context step.now self.old.context) self.old.context;
+        } }
+    {
+        match step {
+            Step::Retakes { drops, .. } => self.take_again(l, *drops),
+            Step::Tries { .. } => self.take_tried(l),
+            Step::Plain | Step::Ends { .. } | Step::Wants { .. } | Step::Frees { .. } =>
+                unreachable!(),
+        }
+    }
+
+    /// Goes on behind an instruction that took a lock once more, for a unit.
+    fn take_again(&mut self, l: Lid, drops: bool)
+        requires units { 1 ≤ self.old.units }
+        requires lock { l.0 < 256 }
+        requires few { times self.old.holds l.0 < 255 }
+        requires at { (top_frame self.old.context.frames).at < 65536 }
+        ensures { self.new ≡ retaken l drops self.old }
+    {
+        let times = self.holds[l.0 as usize] + 1;
+        self.pass(l, times, drops);
+    }
+
     /// Goes on behind a try that took a lock, for a unit.
     fn take_tried(&mut self, l: Lid)
         requires units { 1 ≤ self.old.units }
         requires lock { l.0 < 256 }
+        requires few { times self.old.holds l.0 < 255 }
         requires at { (top_frame self.old.context.frames).at < 65536 }
         requires operands { length self.old.context.operands < 256 }
         ensures { self.new
             ≡ record self.old {
               units = self.old.units - 1;
               state = State.Running;
-              holds = slice_set self.old.holds
-                  l.0 true;
+              holds = holding l (suc (times self.old.holds l.0)) self.old.holds;
               context = on (pushed (pos 1) self.old.context);
             } }
     {
         self.pay();
-        self.holds[l.0 as usize] = true;
+        self.holds[l.0 as usize] += 1;
         self.context.go_on_with(1);
     }
 
@@ -293,7 +384,9 @@ fn drops(step: &Step) -> bool
     ensures { result ≡ drops_at step.now }
 {
     match step {
-        Step::Wants { drops, .. } | Step::Frees { drops, .. } => *drops,
+        Step::Wants { drops, .. } | Step::Retakes { drops, .. } | Step::Frees { drops, .. } => {
+            *drops
+        }
         Step::Plain | Step::Ends { .. } | Step::Tries { .. } => false,
     }
 }

@@ -36,6 +36,7 @@ impl Machine {
         match self.step(program) {
             Step::Plain => Turn::Moved,
             Step::Ends { why } => self.end(program, door, why),
+            Step::Retakes { l, drops } => self.deepen(program, door, l, drops),
             Step::Frees { l, drops } => self.free(program, door, l, drops),
             Step::Tries { l } => self.take(program, door, l),
             Step::Wants { l, drops } => match self.state {
@@ -91,6 +92,19 @@ impl Machine {
             Reply::Woken => self.want(program, door, l, drops),
             _ => Turn::Stopped,
         }
+    }
+
+    /// Takes the lock that it is at, which it holds, once more.
+    fn deepen<D: Door>(&mut self, program: &Program, door: &mut D, l: Lid, drops: bool) -> Turn
+        requires room { 1 ≤ (D.seen door.old).left }
+        requires faces { Faces program.now self.old (D.seen door.old) (Step.Retakes l drops) }
+        ensures turned { Turned program.now self.old (D.seen door.old) result self.new
+            (D.seen door.new) (D.stopped door.new) (D.woken door.new) }
+        ensures moved { result ≡ Turn.Moved }
+        ensures reaches { D.reaches door.old door.new }
+    {
+        self.retake(program, door, l, drops);
+        Turn::Moved
     }
 
     /// Gives the lock back that it is at.

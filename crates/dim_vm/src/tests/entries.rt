@@ -117,6 +117,37 @@ fn locks_that_are_tried(rt: HostRuntime) -> Result<(), Fail> {
 }
 
 #[test]
+fn locks_that_are_held_are_taken_once_more(rt: HostRuntime) -> Result<(), Fail> {
+    let program = program_of(
+        rt.alloc(),
+        "LOCK b\nLOCK b\nPUSH 1\nLOCKX\nTRYLOCK b\nUNLOCK b\nHALT",
+    )?;
+    let took = |at| Entry::Took {
+        t: T,
+        l: B,
+        stack: in_main(&program, at),
+    };
+    let wanted = [
+        Entry::Go {
+            t: T,
+            l: B,
+            stack: in_main(&program, 0),
+        },
+        Entry::Got { t: T, l: B },
+        took(1),
+        took(3),
+        took(4),
+        Entry::Free { t: T, l: B },
+        Entry::End {
+            t: T,
+            why: Why::Done,
+        },
+    ];
+    assert!(rt; makes(rt.alloc(), &program, script(0, 0, 0), &wanted)?);
+    Ok(())
+}
+
+#[test]
 fn a_stack_is_innermost_first(rt: HostRuntime) -> Result<(), Fail> {
     let program = program_of(rt.alloc(), "PUSH 5\nCALL takes\nRET")?;
     // `takes` is the sixth function behind `main`.

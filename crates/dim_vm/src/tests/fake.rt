@@ -1,5 +1,5 @@
 //! A door of one thread alone.
-ghost use Rattle.std.specs.Prelude.{◌≡◌, ◌≤◌, ◌<◌, ◌+◌, ◌-◌, [], ◌∷◌, ◌++◌, vec_len, vec_capacity, IfOk, IfSome, Some, None, ◌⊎◌, List, true};
+ghost use Rattle.std.specs.Prelude.{◌≡◌, ◌≤◌, ◌<◌, ◌+◌, ◌-◌, [], ◌∷◌, ◌++◌, vec_len, vec_capacity, IfOk, IfSome, Some, None, ◌⊎◌, ◌^◌, nat_lt, List, true};
 ghost use Rattle.dim_base.specs.declared.Tid.{Tid};
 ghost use Rattle.dim_rag.specs.declared.entry.Entry.{Entry};
 ghost use Rattle.dim_rag.specs.Fits.{IsYielding};
@@ -7,10 +7,11 @@ ghost use Rattle.dim_rag.specs.Tables.{thread_of};
 ghost use Rattle.std.proofs.Common.{arith};
 ghost use Rattle.dim_rag.specs.declared.command.Reply.TheVariants as reply;
 ghost use Rattle.dim_rag.specs.declared.entry.Named.{Named};
-ghost use Rattle.dim_vm.specs.Door.{MayAsk, IsReplyTo, IsAcquired, mode_in, entry_of, grown};
+ghost use Rattle.dim_vm.specs.Door.{MayAsk, IsReplyTo, IsAcquired, mode_in, times_in, entry_of, grown};
+ghost use Rattle.dim_rag.specs.History.{past, count};
 
 use crate::door::{Door, stops_after};
-use dim_base::{OutOfMemory, Tid};
+use dim_base::{Lid, OutOfMemory, Tid};
 use dim_rag::{Births, Command, Entry, MissWhy, Named, Reply};
 use std::alloc::Global;
 use std::marker::Model;
@@ -70,6 +71,7 @@ fn entry_of(t: Tid, cmd: Command, reply: &Reply) -> Option<Entry>
     match cmd {
         Command::Request { l, stack } => match reply {
             Reply::Go => Some(Entry::Go { t, l, stack }),
+            Reply::Took => Some(Entry::Took { t, l, stack }),
             Reply::Yield(named) => Some(Entry::Yield {
                 t,
                 l,
@@ -113,6 +115,32 @@ fn is_yield(e: &Entry) -> bool
         → IsYielding t.0 (e.now ∷ h) }
 {
     matches!(e, Entry::Yield { .. })
+}
+
+/// How often a thread holds a lock, by its entries.
+fn times(own: &[Entry], t: Tid, lock: Lid) -> u64
+    ensures { result ≡ count t.0 lock.0 (past own.now) }
+{
+    let mut times = 0;
+    for e in own {
+        times = times_after(times, e, t, lock);
+    }
+    times
+}
+
+/// How often after one more entry, where so often before it.
+fn times_after(times: u64, e: &Entry, t: Tid, l: Lid) -> u64
+    requires { times < 2 ^ 63 }
+    ensures count { (h : List Entry) → count t.0 l.0 h ≡ times
+        → result ≡ count t.0 l.0 (e.now ∷ h) }
+    ensures few { result ≤ times + 1 }
+{
+    match e {
+        Entry::Got { t: u, l: m } if *u == t && *m == l => 1,
+        Entry::Took { t: u, l: m, .. } if *u == t && *m == l => times + 1,
+        Entry::Free { t: u, l: m } if *u == t && *m == l => times.saturating_sub(1),
+        _ => times,
+    }
 }
 
 impl Fake {
@@ -168,6 +196,7 @@ impl Fake {
         ensures kept { self.new ≡ self.old }
     {
         match cmd {
+            Command::Request { l, .. } | Command::Try { l, .. } if self.holds(*l) => Reply::Took,
             Command::Request { .. } => self.let_through(),
             Command::Acquire { .. } => self.hand_over(),
             Command::Release { .. } => Reply::Freed,
@@ -175,6 +204,13 @@ impl Fake {
             Command::End { .. } => Reply::Ended,
             Command::Break { .. } | Command::Learn { .. } => unreachable!(),
         }
+    }
+
+    /// Whether the thread holds a lock.
+    fn holds(&self, l: Lid) -> bool
+        ensures { result ≡ nat_lt 0 (times_in self.now l) }
+    {
+        times(&self.own, self.thread, l) > 0
     }
 
     /// Yields while the script has Yields.

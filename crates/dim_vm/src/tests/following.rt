@@ -36,6 +36,17 @@ fn go(program: &Program, at: u32) -> Entry {
     }
 }
 
+fn took(program: &Program, at: u32) -> Entry {
+    Entry::Took {
+        t: T,
+        l: A,
+        stack: Stack::new(&[Frame {
+            func: program.number(0),
+            at,
+        }]),
+    }
+}
+
 const GOT: Entry = Entry::Got { t: T, l: A };
 
 const FREE: Entry = Entry::Free { t: T, l: A };
@@ -77,5 +88,24 @@ fn a_machine_with_a_unit_ends_as_spent_where_it_may(rt: HostRuntime) -> Result<(
     assert!(rt; follows(&program, 3, true, &[end(T, Why::Spent)]));
     assert!(rt; !follows(&program, 3, false, &[end(T, Why::Spent)]));
     assert!(rt; !follows(&program, 3, true, &[go(&program, 2)]));
+    Ok(())
+}
+
+#[test]
+fn a_machine_takes_a_lock_once_more(rt: HostRuntime) -> Result<(), Fail> {
+    let program = program_of(rt.alloc(), "LOCK a\nLOCK a\nUNLOCK a\nUNLOCK a\nHALT")?;
+    let own = [
+        go(&program, 0),
+        GOT,
+        took(&program, 1),
+        FREE,
+        FREE,
+        end(T, Why::Done),
+    ];
+    assert!(rt; follows(&program, 99, true, &own));
+    assert!(rt; follows(&program, 3, true, &own[..3]));
+    assert!(rt; !follows(&program, 2, true, &own[..3]));
+    assert!(rt; !follows(&program, 99, true, &[took(&program, 1)]));
+    assert!(rt; !follows(&program, 99, true, &[go(&program, 0), GOT, GOT]));
     Ok(())
 }

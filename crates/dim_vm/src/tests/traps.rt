@@ -25,7 +25,7 @@ const NOT_OWNER: u8 = 8;
 const FELL_OFF: u8 = 9;
 
 /// Codes, with the number of their trap, and the moves before it.
-const TRAPS: [(&str, u8, u32); 62] = [
+const TRAPS: [(&str, u8, u32); 65] = [
     ("POP\nPOP", UNDER, 1),
     ("POP\nDUP", UNDER, 1),
     ("POP\nSWAP", UNDER, 1),
@@ -73,12 +73,20 @@ const TRAPS: [(&str, u8, u32); 62] = [
     ("PUSH 2\nUNLOCKX", NO_LOCK, 1),
     ("PUSH 4294967296\nUNLOCKX", NO_LOCK, 1),
     ("LOCK a\nPUSH 4294967296\nUNLOCKX", NO_LOCK, 3),
-    ("LOCK a\nLOCK a", RELOCK, 2),
-    ("LOCK b\nPUSH 1\nLOCKX", RELOCK, 3),
-    ("PUSH 1\nLOCKX\nLOCK b", RELOCK, 3),
-    ("LOCK a\nTRYLOCK a", RELOCK, 2),
-    ("TRYLOCK a\nLOCK a", RELOCK, 1),
-    ("LOCK a\nUNLOCK a\nLOCK a\nLOCK a", RELOCK, 5),
+    // held 255 times: a Go and a Got, and 254 Tooks, or as many Tooks as there are holds
+    ("LOCK a\nJMP 0", RELOCK, 511),
+    ("PUSH 1\nLOCKX\nJMP 0", RELOCK, 767),
+    ("TRYLOCK a\nPOP\nJMP 0", RELOCK, 765),
+    ("LOCK a\nTRYLOCK a\nUNLOCK a\nPOP\nJMP 0", RELOCK, 1272),
+    ("LOCK a\nTRYLOCK a", FELL_OFF, 3),
+    ("TRYLOCK a\nLOCK a", FELL_OFF, 2),
+    ("PUSH 1\nLOCKX\nLOCK b", FELL_OFF, 4),
+    ("LOCK a\nLOCK a\nUNLOCK a\nUNLOCK a\nUNLOCK a", NOT_OWNER, 5),
+    (
+        "LOCK a\nPUSH 0\nLOCKX\nPUSH 0\nUNLOCKX\nUNLOCK a\nUNLOCK a",
+        NOT_OWNER,
+        7,
+    ),
     ("UNLOCK a", NOT_OWNER, 0),
     ("LOCK a\nUNLOCK b", NOT_OWNER, 2),
     ("LOCK a\nUNLOCK a\nUNLOCK a", NOT_OWNER, 3),
@@ -118,7 +126,7 @@ const TRAPS_WHEN_FULL: [(&str, u8, u32); 9] = [
     ("GETL 1", OVER, 0),
     ("GETL 2", LOCAL, 0),
     ("TRYLOCK a", OVER, 0),
-    ("LOCK a\nTRYLOCK a", RELOCK, 2),
+    ("LOCK a\nTRYLOCK a", OVER, 2),
     ("POP\nPUSH 1\nPUSH 1", OVER, 2),
     ("ADD\nDUP\nDUP", OVER, 2),
     ("SWAP\nPUTL 1\nGETL 1\nGETL 1", OVER, 3),
@@ -176,7 +184,7 @@ fn with_256_locks(alloc: Global, code: &str) -> Result<Program, Fail> {
 
 /// The same, where there are 256 locks.
 const TRAPS_WITH_256_LOCKS: [(&str, u8, u32); 3] = [
-    ("PUSH 255\nLOCKX\nLOCK l255", RELOCK, 3),
+    ("PUSH 255\nLOCKX\nLOCK l255", FELL_OFF, 4),
     ("PUSH 255\nUNLOCKX", NOT_OWNER, 1),
     ("PUSH 256\nLOCKX", NO_LOCK, 1),
 ];
@@ -189,5 +197,18 @@ fn what_traps_with_256_locks(rt: HostRuntime) -> Result<(), Fail> {
         assert_eq!(rt; outcome.state, trapped(trap), "{code}");
         assert_eq!(rt; outcome.moves, moves, "{code}");
     }
+    Ok(())
+}
+
+#[test]
+fn relock_goes_before_over(rt: HostRuntime) -> Result<(), Fail> {
+    let mut code = String::from_str(rt.alloc(), FULL)?;
+    for _ in 0..255 {
+        code.push_str("LOCK a\n")?;
+    }
+    code.push_str("TRYLOCK a")?;
+    // a Go and a Got, and 254 Tooks
+    let moves = MOVES_OF_FULL + 256;
+    assert_trap(&rt, rt.alloc(), &code, RELOCK, moves)?;
     Ok(())
 }

@@ -25,7 +25,7 @@ const FELL_OFF: State = State::Ended {
 /// A code; the fuel, and the moves that a slice may make; and the moves that it makes, the units, the state and the entries after it.
 type Case = (&'static str, (u32, u16), (u32, u32, State, usize));
 
-const PAYS: [Case; 36] = [
+const PAYS: [Case; 39] = [
     // no units left: it is spent, whatever the instruction is
     ("HALT", (0, 9), (0, 0, SPENT, 1)),
     ("LOCK a", (0, 9), (0, 0, SPENT, 1)),
@@ -49,11 +49,14 @@ const PAYS: [Case; 36] = [
     ("POP\nPUSH 0\nLOCKX", (3, 9), (2, 1, SPENT, 1)),
     ("POP\nPUSH 0\nLOCKX\nHALT", (4, 9), (4, 0, SPENT, 3)),
     // with one unit at a request, a trap goes before
-    ("LOCK a\nLOCK a", (3, 9), (2, 1, RELOCK, 3)),
+    ("LOCK a\nJMP 0", (512, 600), (511, 1, RELOCK, 257)),
     ("POP\nLOCKX", (2, 9), (1, 1, UNDER, 1)),
     ("PUSH 2\nLOCKX", (2, 9), (1, 1, NO_LOCK, 1)),
-    ("LOCK b\nPUSH 1\nLOCKX", (4, 9), (3, 1, RELOCK, 3)),
-    // Free and Took need one and pay it
+    // Free and Took need one and pay it, also where the lock is held
+    ("LOCK a\nLOCK a", (3, 9), (3, 0, SPENT, 4)),
+    ("LOCK a\nLOCK a\nHALT", (4, 9), (3, 1, DONE, 4)),
+    ("LOCK b\nPUSH 1\nLOCKX", (4, 9), (4, 0, SPENT, 4)),
+    ("LOCK a\nTRYLOCK a\nHALT", (4, 9), (3, 1, DONE, 4)),
     ("LOCK a\nUNLOCK a", (2, 9), (2, 0, SPENT, 3)),
     ("LOCK a\nUNLOCK a\nHALT", (3, 9), (3, 0, SPENT, 4)),
     ("LOCK a\nPUSH 0\nUNLOCKX\nHALT", (5, 9), (4, 1, DONE, 4)),
