@@ -10,7 +10,7 @@ pub const SMALLEST_TRACE: &[u8] = b"dim trace 1\nsettings 8192 4\ndone 0\nend 1\
 pub const CROSSED: &[u8] =
     b"dim program 1\nlock a\nlock b\nfunc left 0\nLOCK a\nLOCK b\nUNLOCK b\nUNLOCK a\nRET\nend\nfunc right 0\nLOCK b\nLOCK a\nUNLOCK a\nUNLOCK b\nRET\nend\nthread left 0\nthread right 0\nend program\n";
 
-/// Two threads of which neither can go on once `INTERLEAVED` is known.
+/// Two threads that starve once `INTERLEAVED` is known.
 pub const CHAINED: &[u8] =
     b"dim program 1\nlock a\nlock b\nlock c\nfunc left 0\nLOCK a\nLOCK c\nUNLOCK c\nUNLOCK a\nRET\nend\nfunc right 0\nLOCK c\nLOCK b\nUNLOCK b\nUNLOCK c\nRET\nend\nthread left 0\nthread right 0\nend program\n";
 
@@ -79,10 +79,6 @@ pub const SWITCHED_OFF: &[u8] = b"dim history 2\nsignature 4 2 off 0\nleft:0\nri
 
 /// A signature for which one of two threads has taken a lock before.
 pub const INTERLEAVED: &[u8] = b"dim history 2\nsignature 4 2 on 0\nleft:0\nright:1\nend 1\n";
-
-/// The same with one yield.
-pub const INTERLEAVED_AVOIDED: &[u8] =
-    b"dim history 2\nsignature 4 2 on 1\nleft:0\nright:1\nend 1\n";
 
 /// The signature of the deadlock of the philosophers.
 pub const FIVE_FORKS: &[u8] =

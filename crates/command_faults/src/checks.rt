@@ -1,6 +1,8 @@
 //! Traces that are checked.
 
-use command_calls::programs::{CROSSED, LEARNT, PLAIN, SMALLEST, SMALLEST_TRACE};
+use command_calls::programs::{
+    CHAINED, CROSSED, INTERLEAVED, LEARNT, PLAIN, SMALLEST, SMALLEST_TRACE,
+};
 use command_calls::words::{CHECK, CHECK_ALONE, RUN, SHORT_SLICES};
 use command_calls::{Around, called, loaded, over};
 use dim_base::{MemFiles, OutOfMemory, Word};
@@ -17,6 +19,12 @@ const GRANTED: &[u8] =
 
 const UNLEARNT: &[u8] =
     b"dim trace 1\nsettings 8192 4\ngo 0 a left:0\ngot 0 a\ngo 1 b right:0\ngot 1 b\ngo 0 b left:1\ngo 1 a right:1\nend 6\n";
+
+const STARVED: &[u8] =
+    b"dim trace 1\nsettings 8192 4\ngo 0 a left:0\ngot 0 a\ngo 1 c right:0\ngot 1 c\ngo 0 c left:1\nyield 1 b 0 2 0 5 right:1\nlearn 2 0 2\nbreak 3 1\ngot 1 b\nfree 1 b\nfree 1 c\ndone 1\ngot 0 c\nfree 0 c\nfree 0 a\ndone 0\nend 16\n";
+
+const BROKEN_UNLEARNT: &[u8] =
+    b"dim trace 1\nsettings 8192 4\ngo 0 a left:0\ngot 0 a\ngo 1 c right:0\ngot 1 c\ngo 0 c left:1\nyield 1 b 0 2 0 5 right:1\nbreak 3 1\ngot 1 b\nfree 1 b\nfree 1 c\ndone 1\ngot 0 c\nfree 0 c\nfree 0 a\ndone 0\nend 15\n";
 
 const SPENT: &[u8] = b"dim trace 1\nsettings 8192 4\ngo 0 a main:2\ngot 0 a\nspent 0\nend 3\n";
 
@@ -81,6 +89,18 @@ fn a_trace_breaks_a_rule(rt: HostRuntime) -> Result<(), Fail> {
     let after = checks(&rt, alloc, &CHECK_ALONE, PLAIN, LEARNT, SPENT)?;
     assert_eq!(rt; after.status, 11);
     assert_eq!(rt; after.out.taken(), b"no 2 walk\n".as_slice());
+    Ok(())
+}
+
+#[test]
+fn a_break_waits_for_its_learn(rt: HostRuntime) -> Result<(), Fail> {
+    let alloc = rt.alloc();
+    let after = checks(&rt, alloc, &CHECK, CHAINED, INTERLEAVED, STARVED)?;
+    assert_eq!(rt; after.status, 0);
+    assert_eq!(rt; after.out.taken(), b"yes 16\n".as_slice());
+    let after = checks(&rt, alloc, &CHECK, CHAINED, INTERLEAVED, BROKEN_UNLEARNT)?;
+    assert_eq!(rt; after.status, 11);
+    assert_eq!(rt; after.out.taken(), b"no 6 legal\n".as_slice());
     Ok(())
 }
 

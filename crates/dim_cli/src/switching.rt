@@ -18,7 +18,7 @@ pub fn state_word(on: bool) -> &'static str
     if on { "on" } else { "off" }
 }
 
-/// The same history with the signature of this number in this state.
+/// The history with the signature of this number switched on or off, and all else as it was.
 pub fn switched_history(history: History, index: u32, on: bool) -> History
     requires { index < length history.catalogue.sigs }
     ensures { value_of result ≡ switched_at index on (value_of history) }

@@ -1,18 +1,18 @@
 -- The gate and the machines with which a program begins.
-use Rattle.std.specs.Prelude.{ℕ, zero, suc, ◌+◌, Option, List, [], ◌∷◌, ◌++◌, length}
+use Rattle.std.specs.Prelude.{ℕ, zero, suc, ◌+◌, ◌-◌, min, Option, List, [], ◌∷◌, ◌++◌, length}
 use Rattle.dim_asm.specs.Code.{Code, thread_count, lock_count}
 use Rattle.dim_signature.specs.Sig.{Sig}
 use Rattle.dim_gate.specs.FeedId.{FeedId}
 use Rattle.dim_gate.specs.Gate.{Gate, Constants}
 use Rattle.dim_vm.specs.Configuration.{Configuration, start}
 
--- at most so many signatures are learnt
-abbrev pub learns : ℕ
-learns = 16
+-- how many signatures are learnt, at most, where so many were loaded: 48, and no more than make 4,096
+abbrev pub learns : ℕ → ℕ
+learns loaded = min 48 (4096 - loaded)
 
 -- the constants of a program's gate: its threads and locks, the signatures loaded, the depth of those that are learnt, and room for these
 abbrev pub gate_of : Code → List Sig → ℕ → Constants
-gate_of p loaded depth = record { threads = thread_count p; locks = lock_count p; loaded = loaded; depth = depth; cap = length loaded + learns }
+gate_of p loaded depth = record { threads = thread_count p; locks = lock_count p; loaded = loaded; depth = depth; cap = length loaded + learns (length loaded) }
 
 -- the gate with this feed and these constants at its start
 abbrev pub first_gate : Option FeedId → Constants → Gate

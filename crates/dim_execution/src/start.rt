@@ -10,11 +10,14 @@ use dim_signature::Catalogue;
 use dim_vm::Machine;
 use std::alloc::Global;
 
-/// At most so many signatures are learnt.
-const LEARNS: u32 = 16;
+/// At most so many signatures are learnt, 16 of cycles and 32 of starvations.
+const LEARNS: u32 = 48;
+
+/// At most so many are known.
+const MOST: u32 = 4096;
 
 /// The gate of a program at its start, for its threads and its locks: its history is empty, it knows these signatures, of which there are at
-/// most 4,080, and has room to learn 16 more, each of this depth, which is from 1 to 32.
+/// most 4,080, and has room to learn 48 more, or as many as make 4,096, each of this depth, which is from 1 to 32.
 pub fn new_gate(
     alloc: Global,
     program: &Program,
@@ -26,13 +29,14 @@ pub fn new_gate(
     requires few { length loaded.sigs ≤ 4080 }
     ensures { IfOk result (λ gate. gate ≡ first_gate None (gate_of program.now loaded.sigs depth)) }
 {
+    let learns = LEARNS.min(MOST - loaded.len());
     GateState::new(
         alloc,
         program.threads(),
         program.locks(),
         loaded,
         depth,
-        LEARNS,
+        learns,
     )
 }
 

@@ -1,13 +1,13 @@
 -- Legal, immune and known by places.
-use Rattle.std.proofs.Common.{◌≡◌, ℕ, zero, suc, ◌+◌, ◌<◌, ◌≤◌, refl, ap, sym, ◌∙◌, subst, arith, List, [], ◌∷◌, ◌++◌, length, map, get_or}
+use Rattle.std.proofs.Common.{◌≡◌, ℕ, zero, suc, ◌+◌, refl, ap, ◌∙◌, subst, arith, List, [], ◌∷◌, ◌++◌, length, map}
 use Rattle.std.specs.Prelude.{Some, slice_get, option_map}
 use Rattle.std.proofs.lemmas.List.{length-append, length-map}
-use Rattle.std.proofs.lemmas.Option.{slice_get_within, slice_get-map}
+use Rattle.std.proofs.lemmas.Option.{slice_get-map}
 use Rattle.dim_rag.specs.declared.entry.Entry.{Entry}
 use Rattle.dim_rag.specs.declared.entry.Entry.TheVariants.{Go, Yield, Got, Free, Took, Miss, End, Break, Learn}
 use Rattle.dim_signature.specs.Sig.{Sig}
 use Rattle.dim_gate.specs.Gate.{Constants}
-use Rattle.dim_gate.specs.Known.{Known, knowns, learnt, cycle_sig}
+use Rattle.dim_gate.specs.Known.{Known, knowns, learnt, learnt_sig}
 use Rattle.dim_gate.specs.Legal.{IsLegalAfter, Legal}
 use Rattle.dim_gate.specs.Immune.{IsImmuneAt, IsImmune}
 use Rattle.dim_gate.specs.Learns.{learns}
@@ -84,9 +84,9 @@ module _ (loaded : List Sig) (depth : ℕ) where
   stays_known [] older i k q = q
   stays_known (e ∷ newer) older i k q = get_left (knowns loaded depth (newer ++ older)) (learnt depth e (newer ++ older)) i k (stays_known newer older i k q)
 
-  new_number : (newer : List Entry) (places : List ℕ) (older : List Entry) → slice_get (knowns loaded depth (newer ++ (Learn places ∷ older))) (length loaded + length (learns older)) ≡ Some record { sig = cycle_sig depth places older; since = length older }
+  new_number : (newer : List Entry) (places : List ℕ) (older : List Entry) → slice_get (knowns loaded depth (newer ++ (Learn places ∷ older))) (length loaded + length (learns older)) ≡ Some record { sig = learnt_sig depth places older; since = length older }
   new_number newer places older =
-      let k : Known = record { sig = cycle_sig depth places older; since = length older } in
+      let k : Known = record { sig = learnt_sig depth places older; since = length older } in
       stays_known newer (Learn places ∷ older) (length loaded + length (learns older)) k
       (subst (λ i. slice_get (knowns loaded depth older ++ k ∷ []) i ≡ Some k) (count older) (get_next (knowns loaded depth older) k))
 

@@ -1,16 +1,19 @@
--- The signature of a cycle.
-use Rattle.std.proofs.Common.{◌≡◌, ℕ, refl, ap, ap₂, sym, ◌∙◌, List, [], ◌∷◌, map}
-use Rattle.std.specs.Prelude.{Option, Some, None}
+-- The signature of a cycle and of a starvation.
+use Rattle.std.proofs.Common.{◌≡◌, ℕ, refl, ap, ap₂, inl, inr, List, [], ◌∷◌, map}
+use Rattle.std.specs.Prelude.{Some, None}
 use Rattle.dim_rag.specs.declared.entry.Edge.{Edge}
 use Rattle.dim_rag.specs.declared.entry.Entry.{Entry}
 use Rattle.dim_rag.specs.declared.entry.Mode.{Mode}
 use Rattle.dim_rag.specs.declared.entry.Mode.TheVariants.{Running, Allowed, Yielding, Ended}
 use Rattle.dim_rag.specs.History.{mode}
+use Rattle.dim_rag.specs.Born.{In, IsEdge}
 use Rattle.dim_rag.specs.Waits.{waits, waits_by}
-use Rattle.dim_rag.specs.Steps.{Follow, IsCycle, first_or, births}
+use Rattle.dim_rag.proofs.EdgeBorn.{edge_found}
+use Rattle.dim_rag.proofs.Starving.{cycle_edges}
+use Rattle.dim_rag.specs.Steps.{Follow, IsCycle, births}
 use Rattle.dim_signature.specs.Sig.{fresh}
 use Rattle.dim_signature.specs.Sorted.{sorted}
-use Rattle.dim_gate.specs.Known.{stack_at}
+use Rattle.dim_gate.specs.Known.{stack_of, stack_at}
 use Rattle.dim_gate.specs.ByPlace.{SignatureLaw}
 use Rattle.dim_gate.proofs.HeldStacks.{holder_stack}
 
@@ -35,5 +38,13 @@ cycle_stacks : (n : ℕ) (h : List Entry) (cycle : List Edge) → IsCycle (waits
 cycle_stacks n h [] k = absurd k
 cycle_stacks n h (e ∷ es) k = ap₂ (λ s ss. s ∷ ss) (first_stack n h e e es k.closed) (rest_stacks n h e e es k.closed)
 
+-- the stacks of edges are those of the edges with their births
+edge_stacks : (h : List Entry) (c : List Edge) → ((e : Edge) → In e c → IsEdge h e) → map (λ b. stack_at b h) (births c) ≡ map (λ x. x.stack) c
+edge_stacks h [] f = refl
+edge_stacks h (e ∷ es) f = ap₂ (λ s ss. s ∷ ss) (ap stack_of (edge_found h e (f e (inl refl)))) (edge_stacks h es (λ x i. f x (inr i)))
+
 pub signature_law : SignatureLaw
-signature_law n depth h cycle k = ap (λ ss. fresh depth (sorted ss)) (cycle_stacks n h cycle k)
+signature_law = record {
+  cycle = λ n depth h c k. ap (λ ss. fresh depth (sorted ss)) (cycle_stacks n h c k);
+  starvation = λ n m depth h c k. ap (λ ss. fresh depth (sorted ss)) (edge_stacks h c (cycle_edges n m h c k.cycle));
+}

@@ -1,5 +1,5 @@
 -- The entry of an answer, by its reply.
-use Rattle.std.proofs.Common.{◌≡◌, ◌∙◌, ℕ, ◌<◌, Bool, true, false, refl, ap, sym, subst, inl, inr, List, length}
+use Rattle.std.proofs.Common.{◌≡◌, ◌∙◌, ℕ, Bool, true, false, refl, ap, sym, subst, inl, inr, List, length}
 use Rattle.std.specs.Prelude.{Option, Some, None, if◌then◌else◌}
 use Rattle.dim_base.specs.declared.Tid.{Tid}
 use Rattle.dim_base.specs.declared.Lid.{Lid}
@@ -30,7 +30,7 @@ use Rattle.dim_gate.specs.Gate.{Constants}
 use Rattle.dim_gate.specs.Known.{known_sigs}
 use Rattle.dim_gate.specs.Answer.{answer_by, entry_by, entry_of, reply_of, MayGive}
 use Rattle.dim_gate.specs.Threads.{Answer, only, refused, with, again_or, still_or, yield_or_go, busy_or_got, acquire, if_running, release, miss_or, avoid_or_took, end}
-use Rattle.dim_gate.specs.Tender.{broken_or_stale, stale_or, known_or, full_or_learnt}
+use Rattle.dim_gate.specs.Tender.{stale_or, chosen_or_stale, unlearnt_or, broken, known_or, full_or_learnt}
 use Rattle.dim_gate.proofs.Fitting.{fits_after}
 use Rattle.dim_gate.proofs.Legal.{made_legal}
 use Rattle.dim_gate.proofs.Made.{IsMade, made}
@@ -108,12 +108,16 @@ ended t why (Yielding m place) = refl
 ended t why (Allowed m birth) = refl
 ended t why (Ended place) = refl
 
-broken : (t u : Tid) (set : ℕ) (o : Option ℕ) → Tells t (Break set u) (broken_or_stale set u o)
-broken t u set None = refl
-broken t u set (Some c) = chosen_tells t (Break set u) _ _ (refused (refusal.Stale u.0)) refl refl
+unlearnt_tells : (t u : Tid) (set : ℕ) (o : Option (List ℕ)) → Tells t (Break set u) (unlearnt_or o (broken set u))
+unlearnt_tells t u set None = refl
+unlearnt_tells t u set (Some b) = refl
 
-learnt : (t : Tid) (cap known : ℕ) (births : List ℕ) → Tells t (Learn births) (full_or_learnt cap known births)
-learnt t cap known births = chosen_tells t (Learn births) _ (refused (refusal.Full cap)) _ refl refl
+breaks : (t u : Tid) (set : ℕ) (o : Option ℕ) (w : Option (List ℕ)) → Tells t (Break set u) (chosen_or_stale u o (unlearnt_or w (broken set u)))
+breaks t u set None w = refl
+breaks t u set (Some c) w = chosen_tells t (Break set u) _ (unlearnt_or w (broken set u)) (refused (refusal.Stale u.0)) (unlearnt_tells t u set w) refl
+
+learnt : (t : Tid) (cap known kept : ℕ) (births : List ℕ) → Tells t (Learn births) (full_or_learnt cap known kept births)
+learnt t cap known kept births = chosen_tells t (Learn births) _ (refused (refusal.Full cap)) _ refl refl
 
 -- the entry of the answer to a command is the one that its reply tells
 pub by_reply : (n m cap : ℕ) (sigs : List Sig) (t : Tid) (cmd : Command) (h : List Entry) → Tells t cmd (answer_by n m cap sigs t cmd h)
@@ -132,8 +136,8 @@ by_reply n m cap sigs t (Try l s) h =
     again_tells t (Try l s) l s (count t.0 l.0 h) (hold t.0 l.0 h) next refl (tried t l s (holder n l.0 h) cover) in
     running_tells t (Try l s) (mode t.0 h) (again_or t l s (count t.0 l.0 h) (hold t.0 l.0 h) next) held
 by_reply n m cap sigs t (End why) h = ended t why _
-by_reply n m cap sigs t (Break set u) h = stale_tells t (Break set u) _ _ (broken t u set _)
-by_reply n m cap sigs t (Learn births) h = stale_tells t (Learn births) _ _ (known_tells t (Learn births) _ _ (learnt t cap (length sigs) births))
+by_reply n m cap sigs t (Break set u) h = stale_tells t (Break set u) _ _ (breaks t u set _ _)
+by_reply n m cap sigs t (Learn births) h = stale_tells t (Learn births) _ _ (known_tells t (Learn births) _ _ (learnt t cap (length sigs) _ births))
 
 pub made_is : (c : Constants) (caller : ℕ) (cmd : Command) (h : List Entry) (r : Reply) (o : Option Entry) → r ≡ reply_of c caller cmd h → o ≡ entry_by record { 0 = caller } cmd r → entry_of c caller cmd h ≡ o
 made_is c caller cmd h r o said is =

@@ -6,10 +6,11 @@ use Rattle.dim_rag.specs.declared.entry.Entry.TheVariants.{Learn}
 use Rattle.dim_rag.specs.Fits.{Fits, AreInRange}
 use Rattle.dim_rag.specs.Waits.{waits}
 use Rattle.dim_rag.specs.Steps.{IsCycle, births}
+use Rattle.dim_rag.specs.Starvation.{IsStarvation}
 use Rattle.dim_signature.specs.Sig.{Sig, fresh}
 use Rattle.dim_signature.specs.Sorted.{sorted}
 use Rattle.dim_gate.specs.Gate.{Constants}
-use Rattle.dim_gate.specs.Known.{knowns, cycle_sig}
+use Rattle.dim_gate.specs.Known.{knowns, learnt_sig}
 use Rattle.dim_gate.specs.Legal.{IsLegalAfter, Legal}
 use Rattle.dim_gate.specs.Immune.{IsImmuneAt, IsImmune}
 use Rattle.dim_gate.specs.Learns.{learns}
@@ -32,8 +33,10 @@ pub record KnownLaw : Type 0 where
   pub count : (loaded : List Sig) (depth : ℕ) (h : List Entry) → length (knowns loaded depth h) ≡ length loaded + length (learns h)
   pub loaded : (loaded : List Sig) (depth : ℕ) (h : List Entry) (i : ℕ) (s : Sig) → slice_get loaded i ≡ Some s → slice_get (knowns loaded depth h) i ≡ Some record { sig = s; since = 0 }
   pub learnt : (loaded : List Sig) (depth : ℕ) (newer : List Entry) (places : List ℕ) (older : List Entry)
-      → slice_get (knowns loaded depth (newer ++ (Learn places ∷ older))) (length loaded + length (learns older)) ≡ Some record { sig = cycle_sig depth places older; since = length older }
+      → slice_get (knowns loaded depth (newer ++ (Learn places ∷ older))) (length loaded + length (learns older)) ≡ Some record { sig = learnt_sig depth places older; since = length older }
 
--- the signature of a cycle has the stacks of its hold edges, sorted, at the run's depth
-abbrev pub SignatureLaw : Type 0
-SignatureLaw = (n depth : ℕ) (h : List Entry) (cycle : List Edge) → IsCycle (waits n h) cycle → cycle_sig depth (births cycle) h ≡ fresh depth (sorted (map (λ e. e.stack) cycle))
+-- the signature of a cycle has the stacks of its hold edges, and that of a starvation those of the edges to which its threads step, sorted, at
+-- the run's depth
+pub record SignatureLaw : Type 0 where
+  pub cycle : (n depth : ℕ) (h : List Entry) (c : List Edge) → IsCycle (waits n h) c → learnt_sig depth (births c) h ≡ fresh depth (sorted (map (λ e. e.stack) c))
+  pub starvation : (n m depth : ℕ) (h : List Entry) (c : List Edge) → IsStarvation n m h c → learnt_sig depth (births c) h ≡ fresh depth (sorted (map (λ e. e.stack) c))

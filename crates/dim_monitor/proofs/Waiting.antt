@@ -1,10 +1,10 @@
 -- Where no thread waits for one that waits, there is no cycle.
-use Rattle.std.proofs.Common.{◌≡◌, ℕ, zero, suc, ◌<◌, ◌≤◌, Bool, true, false, eqb, ltb, refl, ap, sym, ◌∙◌, subst, arith, List, [], ◌∷◌, ◌++◌}
+use Rattle.std.proofs.Common.{◌≡◌, ℕ, zero, suc, ◌<◌, Bool, true, false, eqb, ltb, refl, ap, sym, ◌∙◌, subst, arith, List, [], ◌∷◌, ◌++◌}
 use Rattle.std.specs.Prelude.{if◌then◌else◌, Option, Some, None, IfSome, option_map}
 use Rattle.std.specs.Option.{option_to_list}
 use Rattle.dim_base.specs.declared.Tid.{Tid}
 use Rattle.dim_rag.specs.declared.entry.Edge.{Edge}
-use Rattle.dim_rag.specs.Steps.{Step, close, onward, walk, cycles_below}
+use Rattle.dim_rag.specs.Steps.{Step, onward, walk, cycles_below}
 use Rattle.dim_monitor.specs.Found.{beyond}
 
 -- a walk ends where the step leads nowhere

@@ -1,4 +1,4 @@
-//! The monitor: a second graph of a history, of the entries that it is told, and what is stuck in it.
+//! The monitor: a second graph of a history, of the entries that it is told, and what is stuck or starves in it.
 #![tactic(auto)]
 
 mod cycles;

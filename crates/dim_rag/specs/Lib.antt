@@ -12,6 +12,7 @@ pub mod Waits
 pub mod Stuck
 pub mod Born
 pub mod Certificate
+pub mod Starvation
 pub mod Places
 pub mod EdgeLaws
 pub mod Requests

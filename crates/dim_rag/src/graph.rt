@@ -14,8 +14,10 @@ mod cycles;
 mod fits;
 mod row;
 mod set;
+mod starving;
 mod stuck;
 mod told;
+mod trail;
 
 use crate::entry::{Edge, Entry, Mode};
 use dim_base::{Lid, OutOfMemory, Tid};
@@ -24,6 +26,7 @@ pub use set::{is_member, without};
 use std::alloc::Global;
 use std::marker::Model;
 use told::Told;
+pub use trail::Trail;
 
 /// The graph after exactly a list of entries that fits, told one by one. It keeps none of them, and only their number.
 ///

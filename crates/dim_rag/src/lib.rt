@@ -1,4 +1,4 @@
-//! The entries of a gate's history, and the graph that replays them: edges, modes, standing causes, cycles and stuck sets.
+//! The entries of a gate's history, and the graph that replays them: edges, modes, standing causes, cycles, stuck sets and starvations.
 #![tactic(auto)]
 
 mod births;
@@ -14,6 +14,6 @@ mod tests;
 pub use births::Births;
 pub use command::{Command, Refusal, Reply};
 pub use entry::{Edge, Entry, MissWhy, Mode, Named, Why, same_entry};
-pub use graph::{Graph, is_member, without};
+pub use graph::{Graph, Trail, is_member, without};
 pub use journal::Journal;
 pub use tables::Tables;

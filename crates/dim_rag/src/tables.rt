@@ -8,11 +8,12 @@ ghost use Rattle.dim_rag.specs.Counts.{times_held};
 ghost use Rattle.dim_rag.specs.Fits.{Fits, FitsAfter, IsUnheld, IsInRange, AreInRange};
 ghost use Rattle.dim_rag.specs.Asks.{may_ask, IsReady};
 ghost use Rattle.dim_rag.specs.Tables.{HasLockBelow, held_by};
-ghost use Rattle.dim_rag.specs.Born.{IsEdge};
+ghost use Rattle.dim_rag.specs.Born.{IsEdge, edge_born};
 ghost use Rattle.dim_rag.specs.Edges.{standing};
 ghost use Rattle.dim_rag.specs.Waits.{waits};
 ghost use Rattle.dim_rag.specs.Certificate.{held_at, cycle_fault};
 ghost use Rattle.dim_rag.specs.Stuck.{IsStuck, IsFirstFree, stale, choice};
+ghost use Rattle.dim_rag.specs.Starvation.{starvation_fault, starved};
 ghost use Rattle.dim_rag.specs.Yielded.{yielded};
 
 use crate::births::Births;
@@ -267,6 +268,7 @@ impl Tables {
     ///
     /// It looks at each thread and then at each lock, so it costs the same at any length.
     pub fn edge_born(&self, birth: u32) -> Option<Edge>
+        ensures value { result ≡ edge_born (past self.now.entries) birth }
         ensures some { IfSome result (λ e. IsEdge (past self.now.entries) e × (e.birth ≡ birth)) }
         ensures each { (e : Edge) → IsEdge (past self.now.entries) e → e.birth ≡ birth
             → result ≡ Some e }
@@ -342,5 +344,33 @@ impl Tables {
             ≡ choice set self.now.locks (past self.now.entries) self.now.threads }
     {
         self.graph.choice(set)
+    }
+    /// The births of the starvation of a stuck set with a choice: the one that following steps from the choice runs into.
+    ///
+    /// A thread steps to the hold edge on the lock on which it is allowed, or, where it yields and all its causes stand, to the edge of
+    /// the first of them. None exactly where the set has no starvation, and where it has no choice.
+    pub fn starved(&self, set: u32) -> Option<Births>
+        ensures value { result ≡ starved self.now.threads self.now.locks (past self.now.entries)
+            set }
+        ensures certified { IfSome result
+            (λ b. starvation_fault self.now.threads self.now.locks (past self.now.entries) b
+            ≡ None) }
+    {
+        self.graph.starved(set)
+    }
+
+    /// The first position that keeps a list of places from being the births of a starvation, position by position.
+    ///
+    /// Position `i` passes where its place is the birth of an edge, whose owner steps to the edge with the next birth and, for `i` above 0, has
+    /// a greater number than the owner at position 0, and whose lock differs from those of the positions before it. Behind the last
+    /// position comes the first. A list shorter than 2 fails at 0, and so does one where every position passes and no owner yields.
+    pub fn is_starved(&self, births: &Births) -> Result<(), u32>
+        ensures { MatchResult result
+            (λ done. starvation_fault self.now.threads self.now.locks (past self.now.entries)
+            births.now ≡ None)
+            (λ i. starvation_fault self.now.threads self.now.locks (past self.now.entries)
+            births.now ≡ Some i) }
+    {
+        self.graph.is_starved(births)
     }
 }

@@ -7,18 +7,20 @@ use Rattle.dim_rag.specs.Tables.{Replay}
 use Rattle.dim_rag.specs.Waits.{waits}
 use Rattle.dim_rag.specs.Stuck.{is_member, is_yielding, holds_more, choice}
 use Rattle.dim_gate.specs.Gate.{Gate, Constants, constants}
+use Rattle.dim_gate.specs.Known.{known_sigs}
 use Rattle.dim_gate.specs.Legal.{Legal}
+use Rattle.dim_gate.proofs.Unlearnt.{none_chosen}
 use Rattle.dim_monitor.specs.Found.{cycles_of}
 use Rattle.dim_monitor.proofs.Waiting.{no_cycles}
 use Rattle.dim_run.specs.Notes.{AreTaken}
 use Rattle.dim_run.specs.declared.notes.Notes.{Notes}
-use Rattle.dim_run.specs.Settle.{IsTwin, IsBehind, first_unknown, unknown_cycle, learn_or, break_of, greatest_stuck, next_break, next_command, settled, SettledLaw}
+use Rattle.dim_run.specs.Settle.{IsTwin, IsBehind, first_unknown, unknown_cycle, learn_or, break_of, greatest_stuck, next_break, next_way_out, next_command, settled, SettledLaw}
 use Rattle.dim_run.proofs.SettleEnds.{done}
 
 -- where there is no next command, a settle makes nothing
 pub rests : (c : Constants) (h : List Entry) → next_command c h ≡ None → settled c h ≡ h
 unfolding settled
-rests c h q = done c h 48 q
+rests c h q = done c h 80 q
 
 unchosen : (set m : ℕ) (h : List Entry) (k : ℕ) (member yields more : Bool) → yields ≡ false → choice set m h k ≡ None → (if (member && yields) && more then Some k else choice set m h k) ≡ None
 unchosen set m h k true true more q e = absurd (cc)
@@ -35,6 +37,13 @@ no_choice set m h (suc k) q =
 pub no_break : (n m : ℕ) (h : List Entry) → ((t : ℕ) → t < n → is_yielding (mode t h) ≡ false) → next_break n m h ≡ None
 no_break n m h q = ap (break_of (greatest_stuck n m h)) (no_choice (greatest_stuck n m h) m h n q)
 
+-- nor a starvation that is to be learnt
+pub no_way_out : (c : Constants) (h : List Entry) → ((t : ℕ) → t < c.threads → is_yielding (mode t h) ≡ false) → next_way_out c h ≡ None
+no_way_out c h q =
+    ap (λ o. learn_or o (next_break c.threads c.locks h))
+    (none_chosen c.threads c.locks c.cap (known_sigs c.loaded c.depth h) h (greatest_stuck c.threads c.locks h) (no_choice (greatest_stuck c.threads c.locks h) c.locks h c.threads q))
+    ∙ no_break c.threads c.locks h q
+
 -- where there is no cycle, none is unknown
 pub none_unknown : (c : Constants) (h : List Entry) → cycles_of c.threads h ≡ [] → unknown_cycle c h ≡ None
 none_unknown c h q = ap (first_unknown c h) q
@@ -42,8 +51,8 @@ none_unknown c h q = ap (first_unknown c h) q
 -- before the first entry there is nothing to do
 pub first_rests : (c : Constants) → next_command c [] ≡ None
 first_rests c =
-    ap (λ o. learn_or o (next_break c.threads c.locks [])) (none_unknown c [] (no_cycles (waits c.threads []) c.threads c.threads (λ t lt. refl)))
-    ∙ no_break c.threads c.locks [] (λ t lt. refl)
+    ap (λ o. learn_or o (next_way_out c [])) (none_unknown c [] (no_cycles (waits c.threads []) c.threads c.threads (λ t lt. refl)))
+    ∙ no_way_out c [] (λ t lt. refl)
 
 pub rests_first : (g : Gate) → g.entries ≡ [] → next_command (constants g) (past g.entries) ≡ None
 rests_first g q = ap (λ (es : List Entry). next_command (constants g) (past es)) q ∙ first_rests (constants g)
@@ -90,7 +99,11 @@ none_found g m x same twin q =
     sym (none_unknown (constants g) (past g.entries)
     (ap (λ (n : ℕ). cycles_of n (past g.entries)) (sym threads) ∙ ap (λ (es : List Entry). cycles_of x.threads (past es)) (sym entries) ∙ q))
 
--- where nobody yields in the graph of a monitor, there is no Break
-pub no_break_told : (m x : Replay) → x ≡ m → ((t : ℕ) → t < x.threads → is_yielding (mode t (past x.entries)) ≡ false) → None ≡ next_break m.threads m.locks (past m.entries)
-no_break_told m x same q =
-    sym (no_break m.threads m.locks (past m.entries) (subst (λ (y : Replay). (t : ℕ) → t < y.threads → is_yielding (mode t (past y.entries)) ≡ false) same q))
+-- where nobody yields in the graph of a twin, there is no way out to take
+pub no_way_out_told : (g : Gate) (m x : Replay) → x ≡ m → IsTwin g m → ((t : ℕ) → t < x.threads → is_yielding (mode t (past x.entries)) ≡ false) → None ≡ next_way_out (constants g) (past g.entries)
+no_way_out_told g m x same twin q =
+    let threads : x.threads ≡ g.threads = ap (λ (y : Replay). y.threads) same ∙ twin.threads in
+    let entries : x.entries ≡ g.entries = ap (λ (y : Replay). y.entries) same ∙ twin.entries in
+    sym (no_way_out (constants g) (past g.entries)
+    (subst (λ (n : ℕ). (t : ℕ) → t < n → is_yielding (mode t (past g.entries)) ≡ false) threads
+    (subst (λ (es : List Entry). (t : ℕ) → t < x.threads → is_yielding (mode t (past es)) ≡ false) entries q)))

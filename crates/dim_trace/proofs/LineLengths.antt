@@ -189,8 +189,8 @@ module _ (p : Code) (names : List (List ℕ)) (locks : AreNames p.locks) (table 
       let n : length (text_of (last ∷ [])) ≡ length (line_of last) + length (text_of []) = length-append (line_of last) (text_of []) in
       omega (arith, a, d, n, line_size last)
 
-  -- a text with so few entries, stacks and cycles
-  pub text_le : (fuel depth : ℕ) (es : List Entry) → fuel ≤ 8192 → depth ≤ 32 → length es ≤ 1048576 → sum_by cost es ≤ 262144 → sum_by is_learn es ≤ 16 → AllByRecursion (IsEntry p names) es
+  -- a text with so few entries, stacks and Learns
+  pub text_le : (fuel depth : ℕ) (es : List Entry) → fuel ≤ 8192 → depth ≤ 32 → length es ≤ 1048576 → sum_by cost es ≤ 262144 → sum_by is_learn es ≤ 48 → AllByRecursion (IsEntry p names) es
       → length (trace_text p names fuel depth es) ≤ 536870912
   unfolding trace_text
   text_le fuel depth es few low short stacks cycles each =

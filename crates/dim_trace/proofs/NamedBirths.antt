@@ -1,6 +1,6 @@
--- The births of the covers and the cycles that the entries of a legal history tell.
+-- The births of the covers, the cycles and the starvations that the entries of a legal history tell.
 use Rattle.std.proofs.Common.{◌≡◌, ℕ, zero, suc, ◌+◌, ◌<◌, ◌≤◌, Bool, true, false, eqb, ltb, refl, ap, ◌∙◌, subst, inl, inr, arith, List, [], ◌∷◌, ◌++◌, length, map, Option, Some, None}
-use Rattle.std.specs.Prelude.{slice_get, if◌then◌else◌, IsSome}
+use Rattle.std.specs.Prelude.{slice_get, if◌then◌else◌, IsSome, is_none}
 use Rattle.std.specs.List.{AllByRecursion}
 use Rattle.std.proofs.lemmas.Option.{MatchOption-at_some, slice_get_within}
 use Rattle.std.proofs.lemmas.List.{length-append, length-map, length_push}
@@ -22,13 +22,16 @@ use Rattle.dim_rag.specs.declared.entry.Entry.TheVariants.{Go, Yield, Got, Free,
 use Rattle.dim_rag.specs.History.{mode, hold, count}
 use Rattle.dim_rag.specs.Holder.{holder}
 use Rattle.dim_rag.specs.Fits.{AreInRange}
-use Rattle.dim_rag.specs.Born.{In, EdgesLaw, all_edges, edge_after}
+use Rattle.dim_rag.specs.Born.{In, EdgesLaw, all_edges, edge_after, edge_born}
 use Rattle.dim_rag.specs.Waits.{waits, WaitsLaw}
-use Rattle.dim_rag.specs.Steps.{Step, walk, close, onward, WalkLaw, first_owner, births as births_of_cycle}
-use Rattle.dim_rag.specs.Certificate.{held_at, cycle_fault, CertificateLaw}
+use Rattle.dim_rag.specs.Steps.{Step, walk, close, onward, WalkLaw, IsCycle, first_owner, births as births_of_cycle}
+use Rattle.dim_rag.specs.Certificate.{cycle_fault, CertificateLaw}
+use Rattle.dim_rag.specs.Starvation.{step, starvation_fault}
 use Rattle.dim_rag.proofs.Among.{in_parts}
 use Rattle.dim_rag.proofs.Born.{edge_on}
-use Rattle.dim_rag.proofs.Certificates.{held_is, holder_hold}
+use Rattle.dim_rag.proofs.Certificates.{holder_hold}
+use Rattle.dim_rag.proofs.EdgeBorn.{found_edge}
+use Rattle.dim_rag.proofs.Starving.{step_law, starvation_law}
 use Rattle.dim_rag.proofs.Ranges.{edge_below}
 use Rattle.dim_cover.specs.Cover.{IsCover as Covers}
 use Rattle.dim_cover.specs.Least.{births}
@@ -38,7 +41,8 @@ use Rattle.dim_gate.specs.Known.{Known, knowns, known_sigs, learnt, stack_at, st
 use Rattle.dim_gate.specs.Threads.{if_running, again_or, miss_or, avoid_or_took, refused, with}
 use Rattle.dim_gate.specs.Legal.{Legal, IsLegalAfter}
 use Rattle.dim_gate.proofs.Fitting.{in_range}
-use Rattle.dim_gate.proofs.HeldStacks.{each_held, two_or_more}
+use Rattle.dim_gate.specs.Starved.{learn_fault}
+use Rattle.dim_gate.proofs.HeldStacks.{each_born, learn_two}
 use Rattle.dim_gate.proofs.Vetted.{legal_made, legal_yield}
 use Rattle.dim_trace.specs.Grammar.{IsBirth, AreBirths, IsCover, IsMissWhy}
 
@@ -98,7 +102,7 @@ module _ (edges : EdgesLaw) (h : List Entry) (short : length h ≤ 1048575) wher
       } in
       record { sig = omega (arith, place, few); births = subst AreBirths is.births_are told }
 
--- ---- cycles
+-- ---- cycles and starvations
 close_short : (b : ℕ) (so_far bs : List ℕ) → close b so_far ≡ Some bs → length bs ≤ suc (length so_far)
 close_short b [] bs q = absurd (let n : None ≡ Some bs = q in cc)
 close_short b (c ∷ so_far) bs q = let k : Some (b ∷ c ∷ so_far) ≡ Some bs = q in let e : b ∷ c ∷ so_far ≡ bs = cc in subst (λ (x : List ℕ). length x ≤ suc (length (c ∷ so_far))) e (omega arith)
@@ -120,27 +124,38 @@ walk_short s t (suc more) at so_far bs q = by_step (s at) q (λ e. walk_short s 
     by_step (Some e) q f = by_tests e (eqb e.t.0 t) (ltb e.t.0 t) q (f e)
 
 module _ (edges : EdgesLaw) (certificate : CertificateLaw) (walks : WalkLaw) (waits_law : WaitsLaw) (n m : ℕ) (few : n ≤ 32) where
+  list_few : (s : Step) → ((t : ℕ) (e : Edge) → s t ≡ Some e → e.t.0 < n) → (c : List Edge) → IsCycle s c → length (births_of_cycle c) ≤ 32
+  list_few s leads c k =
+      let found = walks.complete s n leads c k in
+      let short : length (births_of_cycle c) ≤ 0 + n = walk_short s (first_owner c) n (first_owner c) [] (births_of_cycle c) found in
+      omega (arith, short, few)
+
   cycle_few : (h : List Entry) (bs : List ℕ) → AreInRange n m h → cycle_fault n m h bs ≡ None → length bs ≤ 32
-  cycle_few h bs range q =
-      let c = (certificate n m h range bs).0 q in
-      let found = walks.complete (waits n h) n (λ t e w. waits_law n h t e w) c.0 c.1 in
-      let short : length (births_of_cycle c.0) ≤ 0 + n = walk_short (waits n h) (first_owner c.0) n (first_owner c.0) [] (births_of_cycle c.0) found in
-      subst (λ (x : List ℕ). length x ≤ 32) c.2 (omega (arith, short, few))
+  cycle_few h bs range q = let c = (certificate n m h range bs).0 q in subst (λ (x : List ℕ). length x ≤ 32) c.2 (list_few (waits n h) (λ t e w. waits_law n h t e w) c.0 c.1)
 
-  held_near : (h : List Entry) (p : ℕ) (o : Option Edge) → length h ≤ 1048575 → held_at n m h p ≡ o → IsSome o → IsBirth p
-  held_near h p None short q i = absurd (let x : false ≡ true = i in cc)
-  held_near h p (Some x) short q i =
-      let w = held_is n m h p x q in
-      let t = holder_hold n w.0 h x w.1 in
-      let old : x.birth < length h = edges.old h x (edges.each h x (edge_on t.0 w.0 h x (inr t.1)).2) in
-      omega (arith, old, w.2, short)
+  starved_few : (h : List Entry) (bs : List ℕ) → AreInRange n m h → starvation_fault n m h bs ≡ None → length bs ≤ 32
+  starved_few h bs range q = let c = (starvation_law n m h bs).0 q in subst (λ (x : List ℕ). length x ≤ 32) c.2 (list_few (step n m h) (λ t e w. step_law.thread n m h range t e w) c.0 c.1.cycle)
 
-  -- a cycle that is learnt
-  pub learnt_births : (h : List Entry) (bs : List ℕ) → length h ≤ 1048575 → AreInRange n m h → cycle_fault n m h bs ≡ None → AreBirths bs
+  learnt_few : (h : List Entry) (bs : List ℕ) → AreInRange n m h → learn_fault n m h bs ≡ None → length bs ≤ 32
+  learnt_few h bs range q = go (starvation_fault n m h bs) refl q
+    where
+      go : (o : Option ℕ) → starvation_fault n m h bs ≡ o → (if is_none o then None else cycle_fault n m h bs) ≡ None → length bs ≤ 32
+      go None s q = starved_few h bs range s
+      go (Some i) s q = cycle_few h bs range q
+
+  born_near : (h : List Entry) (p : ℕ) (o : Option Edge) → length h ≤ 1048575 → edge_born h p ≡ o → IsSome o → IsBirth p
+  born_near h p None short q i = absurd (let x : false ≡ true = i in cc)
+  born_near h p (Some x) short q i =
+      let w = found_edge h p x q in
+      let old : x.birth < length h = edges.old h x (edges.each h x w.0) in
+      omega (arith, old, w.1, short)
+
+  -- a cycle or a starvation that is learnt
+  pub learnt_births : (h : List Entry) (bs : List ℕ) → length h ≤ 1048575 → AreInRange n m h → learn_fault n m h bs ≡ None → AreBirths bs
   learnt_births h bs short range q = record {
-    some = two_or_more n m h bs q;
-    few = cycle_few h bs range q;
-    near = by_places IsBirth bs (λ i p at. held_near h p (held_at n m h p) short refl (each_held n m h bs q i p at));
+    some = learn_two n m h bs q;
+    few = learnt_few h bs range q;
+    near = by_places IsBirth bs (λ i p at. born_near h p (edge_born h p) short refl (each_born n m h bs q i p at));
   }
 
 -- ---- known signatures

@@ -1,5 +1,5 @@
 -- The verdict that is found by tests is the verdict.
-use Rattle.std.proofs.Common.{◌≡◌, ℕ, zero, suc, ◌≤◌, ◌<◌, ◌⊎◌, Bool, true, false, ◌&&◌, refl, ap, sym, ◌∙◌, subst, inl, inr, arith, List, [], ◌∷◌, ◌++◌, length, take, append_assoc, append-nil}
+use Rattle.std.proofs.Common.{◌≡◌, ℕ, ◌≤◌, ◌<◌, ◌⊎◌, Bool, true, false, ◌&&◌, refl, ap, sym, ◌∙◌, subst, inl, inr, List, [], ◌∷◌, ◌++◌, length, take, append_assoc, append-nil}
 use Rattle.std.specs.Prelude.{◌==◌, Option, Some, None, is_some, slice_get, nat_le, not, if◌then◌else◌}
 use Rattle.std.specs.Bool.{Decides}
 use Rattle.std.specs.List.{list_all}
@@ -21,7 +21,7 @@ use Rattle.dim_rag.specs.declared.entry.Mode.TheVariants.{Running, Allowed, Yiel
 use Rattle.dim_rag.specs.declared.entry.Why.{Why}
 use Rattle.dim_rag.specs.declared.entry.Why.TheVariants.{Done, Trapped, Spent}
 use Rattle.dim_rag.specs.Edges.{standing}
-use Rattle.dim_rag.specs.Fits.{IsInRange, IsYielding}
+use Rattle.dim_rag.specs.Fits.{IsInRange}
 use Rattle.dim_rag.specs.History.{past, mode}
 use Rattle.dim_rag.specs.Holder.{holder}
 use Rattle.dim_rag.specs.Steps.{AreCycles, CyclesLaw, IsCycle, births as births_of}
@@ -32,13 +32,14 @@ use Rattle.dim_rag.proofs.Steps.{past_more}
 use Rattle.dim_gate.specs.Answer.{entry_of}
 use Rattle.dim_gate.specs.Gate.{Constants}
 use Rattle.dim_gate.specs.Legal.{Legal, IsLegalAfter, caller_of as number_of_caller, command_of}
-use Rattle.dim_gate.specs.Settled.{HasEnded, IsSettled, IsWaiting, is_known}
+use Rattle.dim_gate.specs.Settled.{HasEnded, IsSettled, IsWaiting, is_known, are_followed}
+use Rattle.dim_gate.proofs.Followed.{followed_law}
 use Rattle.dim_monitor.specs.Found.{cycles_of}
 use Rattle.dim_vm.specs.Configuration.{Configuration, is_ended, next_of}
 use Rattle.dim_vm.specs.Fitting.{FitsEntry, FitsNext, IsWanting, IsRetaking, IsFreeing, IsTrying}
 use Rattle.dim_vm.specs.Frames.{stack_of}
 use Rattle.dim_vm.specs.Table.{Next, Plain, Ends, Wants, Retakes, Frees, Tries}
-use Rattle.dim_vm.specs.Walks.{Walks, FitsCaller, IsAwake, IsWoken, caller_of, configuration, is_by}
+use Rattle.dim_vm.specs.Walks.{Walks, FitsCaller, IsAwake, caller_of, configuration, is_by}
 use Rattle.dim_trace.specs.declared.verdict.Rule.TheVariants as rule
 use Rattle.dim_trace.specs.declared.verdict.Verdict.{Verdict}
 use Rattle.dim_trace.specs.declared.verdict.Verdict.TheVariants.{Yes, No}
@@ -231,7 +232,7 @@ module _ (cycles : CyclesLaw) (threads : WaitsLaw) (c : Constants) (h : List Ent
       Decides-like _ all.0 all.1 (Decides-by_and (is_known c h) (λ b. is_known c h b ≡ true) (list_all (is_known c h)) (λ b. at_true (is_known c h b)) refl (λ _ _. refl) (cycles_of c.threads h))
 
   settled : Decides (is_settled c h) (IsSettled c h)
-  settled = Decides-like _ (λ k. record { threads = k.0; cycles = k.1 }) (λ s. (s.threads, s.cycles)) (Decides-and _ _ (all_resting c.threads h c.threads) known)
+  settled = Decides-like _ (λ k. record { threads = k.0; cycles = k.1.0; starvations = (followed_law c h).0 k.1.1 }) (λ s. (s.threads, (s.cycles, (followed_law c h).1 s.starvations))) (Decides-and _ _ (all_resting c.threads h c.threads) (Decides-and _ _ known (at_true (are_followed c.threads c.locks None h))))
 
 -- Place by place.
 front : (done rest : List Entry) → take (length done) (done ++ rest) ≡ done

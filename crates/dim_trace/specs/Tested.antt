@@ -21,13 +21,12 @@ use Rattle.dim_rag.specs.Tables.{thread_of}
 use Rattle.dim_gate.specs.Answer.{entry_of}
 use Rattle.dim_gate.specs.Gate.{Constants}
 use Rattle.dim_gate.specs.Legal as legal
-use Rattle.dim_gate.specs.Settled.{is_known}
+use Rattle.dim_gate.specs.Settled.{is_known, are_followed}
 use Rattle.dim_monitor.specs.Found.{cycles_of}
 use Rattle.dim_vm.specs.Configuration.{Configuration, is_ended, next_of}
 use Rattle.dim_vm.specs.Frames.{stack_of}
 use Rattle.dim_vm.specs.Table.{Next, Ends, Wants, Retakes, Frees, Tries}
 use Rattle.dim_vm.specs.Walks.{caller_of, configuration, is_by}
-use Rattle.dim_trace.specs.declared.verdict.Rule.{Rule}
 use Rattle.dim_trace.specs.declared.verdict.Rule.TheVariants as rule
 use Rattle.dim_trace.specs.declared.verdict.Verdict.{Verdict}
 use Rattle.dim_trace.specs.declared.verdict.Verdict.TheVariants.{Yes, No}
@@ -130,7 +129,7 @@ all_rest n h zero = true
 all_rest n h (suc k) = rests n h (mode k h) && all_rest n h k
 
 abbrev pub is_settled : Constants → List Entry → Bool
-is_settled c h = all_rest c.threads h c.threads && list_all (is_known c h) (cycles_of c.threads h)
+is_settled c h = all_rest c.threads h c.threads && (list_all (is_known c h) (cycles_of c.threads h) && are_followed c.threads c.locks None h)
 
 -- the verdict by two tests of an entry at a place, and by what is said behind it
 abbrev pub by_tests : Bool → Bool → ℕ → Verdict → Verdict

@@ -3,8 +3,6 @@ use Rattle.std.proofs.Common.{◌≡◌, ◌↔◌, ℕ, zero, suc, ◌+◌, ◌
 use Rattle.std.specs.Prelude.{Some, slice_get, reverse, take}
 use Rattle.std.proofs.lemmas.List.{reverse-reverse, reverse-append}
 use Rattle.std.proofs.lemmas.Option.{same_Some}
-use Rattle.dim_base.specs.declared.Tid.{Tid}
-use Rattle.dim_asm.specs.Code.{Code}
 use Rattle.dim_rag.specs.declared.entry.Entry.{Entry}
 use Rattle.dim_rag.specs.History.{past}
 use Rattle.dim_rag.specs.Places.{before}

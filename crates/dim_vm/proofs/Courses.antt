@@ -1,5 +1,5 @@
 -- The plain instructions that come next.
-use Rattle.std.proofs.Common.{◌≡◌, ◌↔◌, ℕ, zero, suc, ◌+◌, refl, ap, sym, ◌∙◌, subst, inl, inr, ◌⊎◌, List, arith}
+use Rattle.std.proofs.Common.{◌≡◌, ℕ, zero, suc, ◌+◌, refl, ap, sym, ◌∙◌, subst, inl, inr, ◌⊎◌, List, arith}
 use Rattle.dim_asm.specs.Code.{Code}
 use Rattle.dim_vm.specs.declared.context.Context.{Context}
 use Rattle.dim_vm.specs.Table.{Next, Plain, Ends, Wants, Retakes, Frees, Tries, next}

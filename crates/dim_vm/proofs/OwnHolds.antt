@@ -1,5 +1,5 @@
 -- What a thread's own entries say of its holds and of its wish.
-use Rattle.std.proofs.Common.{◌≡◌, ℕ, suc, ◌-◌, ◌==◌, Bool, true, false, ◌&&◌, if◌then◌else◌, List, [], ◌∷◌, length, refl, ap, sym, ◌∙◌, Option, Some, option_map}
+use Rattle.std.proofs.Common.{◌≡◌, ℕ, suc, ◌-◌, ◌==◌, Bool, true, false, ◌&&◌, if◌then◌else◌, List, [], ◌∷◌, length, refl, ap, sym, ◌∙◌, Some, option_map}
 use Rattle.dim_base.specs.declared.Tid.{Tid}
 use Rattle.dim_base.specs.declared.Lid.{Lid}
 use Rattle.dim_stack.specs.declared.Frame.{Frame}

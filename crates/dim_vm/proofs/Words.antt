@@ -1,5 +1,5 @@
 -- The latest words of a thread whose newest entry is its own.
-use Rattle.std.proofs.Common.{◌≡◌, ℕ, ◌==◌, Bool, true, false, ◌&&◌, if◌then◌else◌, List, [], ◌∷◌, ◌++◌, refl, ap, sym, subst, ◌∙◌, Option, Some, eq-eqb, length}
+use Rattle.std.proofs.Common.{◌≡◌, ℕ, ◌==◌, Bool, true, if◌then◌else◌, List, [], ◌∷◌, ◌++◌, ap, sym, subst, ◌∙◌, Option, Some, eq-eqb, length}
 use Rattle.std.specs.Prelude.{IfSome}
 use Rattle.std.proofs.lemmas.List.{reverse-append}
 use Rattle.dim_base.specs.declared.Tid.{Tid}

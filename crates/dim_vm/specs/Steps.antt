@@ -1,5 +1,5 @@
 -- What a step shows of the table.
-use Rattle.std.specs.Prelude.{◌≡◌, ◌≢◌, ℕ, ◌<◌, ◌≤◌, ◌+◌, Bool, true, false, if◌then◌else◌, ⊤, List, length, Result, Ok, Err, ℤ, pos, nat_lt}
+use Rattle.std.specs.Prelude.{◌≡◌, ◌≢◌, ℕ, ◌<◌, ◌≤◌, ◌+◌, Bool, if◌then◌else◌, ⊤, List, length, Result, Ok, Err, ℤ, pos, nat_lt}
 use Rattle.dim_base.specs.declared.Lid.{Lid}
 use Rattle.dim_asm.specs.Code.{Code, lock_count}
 use Rattle.dim_rag.specs.declared.entry.Why.TheVariants.{Spent}

@@ -2,7 +2,7 @@
 ghost use Rattle.std.specs.Prelude.{◌≡◌, ℕ, ◌<◌, Some, IfSome};
 ghost use Rattle.dim_rag.specs.declared.entry.Edge.{Edge};
 ghost use Rattle.dim_rag.specs.History.{past, allow, hold};
-ghost use Rattle.dim_rag.specs.Born.{IsEdge, with_birth};
+ghost use Rattle.dim_rag.specs.Born.{IsEdge, edge_born, with_birth};
 
 use crate::entry::Edge;
 use crate::graph::Graph;
@@ -13,6 +13,7 @@ impl Graph {
     ///
     /// It looks at each thread and then at each lock, so it costs the same at any length.
     pub fn edge_born(&self, birth: u32) -> Option<Edge>
+        ensures value { result ≡ edge_born (past self.now.entries) birth }
         ensures some { IfSome result (λ e. IsEdge (past self.now.entries) e × (e.birth ≡ birth)) }
         ensures each { (e : Edge) → IsEdge (past self.now.entries) e → e.birth ≡ birth
             → result ≡ Some e }

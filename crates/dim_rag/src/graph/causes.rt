@@ -29,7 +29,7 @@ impl Graph {
         u32::MAX
     }
 
-    /// The same where only the edges of the members of a set count.
+    /// The place of the first cause of a thread that yields, where all its causes stand and are edges of members of a set; none else.
     pub(crate) fn standing_in(&self, set: u32, t: Tid) -> Option<u32>
         requires { t.0 < self.now.threads }
         ensures { result

@@ -2,12 +2,13 @@
 ghost use Rattle.std.specs.Prelude.{◌≡◌, ◌+◌, ◌<◌, Some, None, IfSome, MatchResult, length, drop};
 ghost use Rattle.dim_rag.specs.History.{past};
 ghost use Rattle.dim_rag.specs.Waits.{waits};
-ghost use Rattle.dim_rag.specs.Certificate.{held_at, leads, is_later, passes, next_or, cycle_fault};
+ghost use Rattle.dim_rag.specs.Certificate.{held_at, next_or, cycle_fault};
 
 use crate::births::Births;
 use crate::entry::{Edge, Mode};
 use crate::graph::Graph;
 use crate::graph::row::held_by;
+use crate::graph::trail::Trail;
 use dim_base::Tid;
 
 impl Graph {
@@ -29,7 +30,7 @@ impl Graph {
         let first = births.at(0);
         for i in 0..births.len() {
             let next = next_place(births, i, first);
-            if !self.passes(first, i, births.at(i), next) {
+            if !self.passes(Trail::Cycle, first, i, births.at(i), next) {
                 return Err(i);
             }
         }
@@ -59,47 +60,14 @@ impl Graph {
             None => None,
         }
     }
-
-    /// Whether position `i` of a list of places passes.
-    fn passes(&self, first: u32, i: u32, place: u32, next: u32) -> bool
-        ensures { result ≡ passes (held_at self.now.threads self.now.locks (past self.now.entries))
-            (waits self.now.threads (past self.now.entries)) first i place next }
-    {
-        let found = self.held_at(place);
-        self.leads(&found, next) && (i == 0 || is_later(&self.held_at(first), &found))
-    }
-
-    /// Whether an edge is there and its owner waits for the hold edge with the next birth.
-    fn leads(&self, found: &Option<Edge>, next: u32) -> bool
-        requires { IfSome found.now (λ e. e.t.0 < self.now.threads) }
-        ensures { result ≡ leads (waits self.now.threads (past self.now.entries)) next found.now }
-    {
-        match found {
-            None => false,
-            Some(e) => match self.waits_for(e.t) {
-                None => false,
-                Some(f) => f.birth == next,
-            },
-        }
-    }
 }
 
 /// The place behind position `i` of a list of places, or the first.
 #[tactic(auto, using(crate::proofs::Positions::next_at, crate::proofs::Positions::next_end))]
-fn next_place(births: &Births, i: u32, first: u32) -> u32
+pub fn next_place(births: &Births, i: u32, first: u32) -> u32
     requires { i < length births.now }
     ensures { result ≡ next_or first (drop (i + 1) births.now) }
 {
     let len = births.len();
     if i + 1 < len { births.at(i + 1) } else { first }
-}
-
-/// Whether the second of two edges has the greater owner.
-fn is_later(a: &Option<Edge>, b: &Option<Edge>) -> bool
-    ensures { result ≡ is_later a.now b.now }
-{
-    match (a, b) {
-        (Some(x), Some(y)) => x.t.0 < y.t.0,
-        _ => false,
-    }
 }

@@ -53,7 +53,7 @@ impl Graph {
         t < self.threads() && self.is_held_in(set, Tid(t))
     }
 
-    /// The same for a thread.
+    /// Whether a thread may be a member of a stuck set.
     fn is_held_in(&self, set: u32, t: Tid) -> bool
         requires { t.0 < self.now.threads }
         ensures { result ≡ is_held_by set self.now.threads self.now.locks (past self.now.entries)
@@ -109,7 +109,7 @@ impl Graph {
 }
 
 /// Whether a mode is that of a thread that yields.
-fn is_yielding(mode: &Mode) -> bool
+pub fn is_yielding(mode: &Mode) -> bool
     ensures { result ≡ is_yielding mode.now }
 {
     matches!(mode, Mode::Yielding { .. })

@@ -38,7 +38,7 @@ pub fn stands_for(frames: &[Frame], births: &[Births], brief: &Brief, e: &Entry)
     }
 }
 
-/// The same, by the entry that it stands for.
+/// Whether a brief stands for an entry, by making the entry that it stands for.
 ///
 /// It isn't inlined, since that is large and a function fills its locals each time that it is called.
 #[inline(never)]

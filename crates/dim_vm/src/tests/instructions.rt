@@ -90,7 +90,7 @@ fn what_instructions_leave(rt: HostRuntime) -> Result<(), Fail> {
     Ok(())
 }
 
-/// The same, where the first lock that is tried is busy.
+/// What instructions leave where the first lock that is tried is busy.
 const MISSES: [(&str, &[i64]); 2] = [("TRYLOCK a", &[0, 7]), ("TRYLOCK a\nTRYLOCK a", &[1, 0, 7])];
 
 #[test]

@@ -119,7 +119,7 @@ PUSH 0
 
 const MOVES_OF_FULL: u32 = 250 * 9 + 5;
 
-/// The same, where all operands are there.
+/// The traps of code behind which all operands are there.
 const TRAPS_WHEN_FULL: [(&str, u8, u32); 9] = [
     ("PUSH 1", OVER, 0),
     ("DUP", OVER, 0),
@@ -182,7 +182,7 @@ fn with_256_locks(alloc: Global, code: &str) -> Result<Program, Fail> {
     Ok(assemble(alloc, text.as_bytes())?)
 }
 
-/// The same, where there are 256 locks.
+/// The traps of code in a program of 256 locks.
 const TRAPS_WITH_256_LOCKS: [(&str, u8, u32); 3] = [
     ("PUSH 255\nLOCKX\nLOCK l255", FELL_OFF, 4),
     ("PUSH 255\nUNLOCKX", NOT_OWNER, 1),

@@ -1,4 +1,4 @@
-use Rattle.std.proofs.Common.{◌<◌, ℕ, arith}
+use Rattle.std.proofs.Common.{ℕ, arith}
 use Rattle.dim_rag.specs.History.{past}
 use Rattle.dim_rag.specs.Waits.{waits}
 use Rattle.dim_monitor.proofs.Waiting.{no_cycles}
