@@ -58,7 +58,7 @@ frame_ok word f e =
       record { name = name.1; near = offset.0 },
     )
 
-frames_ok : (words : List (List ℕ)) (fs : List NamedFrame) → frames_of words ≡ Ok fs → (words ≡ map spelled_frame fs) × AllByRecursion IsFrame fs
+pub frames_ok : (words : List (List ℕ)) (fs : List NamedFrame) → frames_of words ≡ Ok fs → (words ≡ map spelled_frame fs) × AllByRecursion IsFrame fs
 frames_ok [] fs e = let same : [] ≡ fs = cc (e) in subst (λ xs. ([] ≡ map spelled_frame xs) × AllByRecursion IsFrame xs) same (refl, tt)
 frames_ok (word ∷ words) fs e =
     let a = bind_ok (frame_of word) (λ f. frames_of words >>= λ gs. Ok (f ∷ gs)) fs e in

@@ -78,7 +78,7 @@ spelled_all : (fs : List NamedFrame) → AllByRecursion IsFrame fs → frames_of
 spelled_all [] h = refl
 spelled_all (f ∷ fs) h = rw (spelled_one f h.0, spelled_all fs h.1) refl
 
-all_sides : (fs : List NamedFrame) → AllByRecursion IsFrame fs → list_all has_sides (map spelled_frame fs) ≡ true
+pub all_sides : (fs : List NamedFrame) → AllByRecursion IsFrame fs → list_all has_sides (map spelled_frame fs) ≡ true
 all_sides [] h = refl
 all_sides (f ∷ fs) h =
     rw (sides_of-frame_word f.name (decimal f.at) (HasNo-name 58 f.name refl h.0.name) (HasNo-decimal 58 f.at (λ r. omega (arith, r.1)) (omega (arith, h.0.near)))) (all_sides fs h.1)

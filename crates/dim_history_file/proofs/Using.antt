@@ -1,16 +1,17 @@
 -- The names in a text, and those that its history uses.
-use Rattle.std.proofs.Common.{◌≡◌, ◌<◌, ◌≤◌, ◌^◌, ℕ, inl, inr, Bool, true, false, ◌||◌, List, [], ◌∷◌, ◌++◌, length, map, Option, Some, None, Ok, arith, rules, refl, sym, ap, ap₂, ◌∙◌, subst, append-nil}
-use Rattle.std.specs.Prelude.{◌==◌, codes, get_or, slice_get, All}
+use Rattle.std.proofs.Common.{◌≡◌, ◌<◌, ◌≤◌, ◌^◌, ℕ, inl, inr, Bool, true, false, ◌||◌, List, [], ◌∷◌, ◌++◌, length, map, Option, Some, None, Ok, Err, arith, rules, refl, sym, ap, ap₂, ◌∙◌, subst, append-nil}
+use Rattle.std.specs.Prelude.{◌==◌, codes, get_or, nat_lt, slice_get, All}
 use Rattle.std.specs.Option.{IsSome, MatchOption, option_map}
 use Rattle.std.specs.Borrow.{Bor}
-use Rattle.std.specs.List.{AllByRecursion, flat_map, list_any}
+use Rattle.std.specs.List.{AllByRecursion, flat_map, list_all, list_any}
 use Rattle.std.specs.Str.{bytes_eq}
 use Rattle.std.specs.Fmt.{decimal}
-use Rattle.std.proofs.lemmas.Bool.{cases_Bool, or_cases, or_left, or_right, cond-true, cond-false, false≢true, false_from_ne_true}
+use Rattle.std.proofs.lemmas.Bool.{cases_Bool, or_cases, or_left, or_right, cond-true, cond-false, false≢true, false_from_ne_true, le-ltb}
 use Rattle.std.proofs.lemmas.Cmp.{nat_list_eq_equiv}
 use Rattle.std.proofs.lemmas.Map.Keys.{any_passes_from_place}
 use Rattle.std.proofs.lemmas.Map.Views.{All-from_any}
-use Rattle.std.proofs.lemmas.Option.{get_or_from_slice_get, slice_get_within}
+use Rattle.std.proofs.lemmas.Option.{get_or_from_slice_get, slice_get-get_or, slice_get-map, slice_get_within}
+use Rattle.std.proofs.lemmas.List.{length-map}
 use Rattle.std.proofs.lemmas.List.Elements.{Contains-append_left, Contains-append_right}
 use Rattle.std.proofs.lemmas.List.Concat.{flat_map-append}
 use Rattle.std.proofs.lemmas.List.Folds.{list_any_none}
@@ -19,6 +20,7 @@ use Rattle.std.proofs.lemmas.Slice.Eq.{bytes_eq-Decides}
 use Rattle.dim_text.specs.Cuts.{lines_of, words_of, sides_of, two_sides, HasNo}
 use Rattle.dim_text.specs.Naming.{is_name, IsName, name_of as name_of_word}
 use Rattle.dim_text.specs.Numerals.{number_of as number_in}
+use Rattle.dim_text.specs.Words.{has_sides}
 use Rattle.dim_text.proofs.Cutting.{lines_of-ended, words_of-line_of, sides_of-frame_word}
 use Rattle.dim_text.proofs.Digits.{HasNo-decimal}
 use Rattle.dim_text.proofs.NameLemmas.{HasNo-name}
@@ -30,13 +32,14 @@ use Rattle.dim_stack.proofs.NumberLemmas.{missing, found}
 use Rattle.dim_history_file.specs.declared.opening.Opening.{Opening}
 use Rattle.dim_history_file.specs.declared.version.Version.{Version}
 use Rattle.dim_history_file.specs.declared.version.Version.TheVariants.{One, Two}
-use Rattle.dim_history_file.specs.Judging.{frame_of}
-use Rattle.dim_history_file.specs.Value.{NamedFrame, NamedSig, named_frame, names_of_stack, names_used}
+use Rattle.dim_history_file.specs.declared.fault.FileKind.TheVariants.{Name, Number}
+use Rattle.dim_history_file.specs.Judging.{frame_of, frames_of, stack_of}
+use Rattle.dim_history_file.specs.Value.{AreNumbersIn, NamedFrame, NamedSig, named_frame, names_of_stack, names_used}
 use Rattle.dim_history_file.specs.Naming.{name_in, names_in_word, names_in_words, names_in_line, names_in_lines, names_in}
 use Rattle.dim_history_file.specs.Spelling.{Line, HeadLine, SignatureLine, StackLine, EndLine, spelled_frame, state_word, opening_words, spelled, opening_for, sig_lines, history_lines, text_of, text_in}
 use Rattle.dim_history_file.specs.Grammar.{IsFrame, IsStack, IsSignature, IsHistory, IsTextOf}
-use Rattle.dim_history_file.proofs.Judged.{name_ok}
-use Rattle.dim_history_file.proofs.Spelled.{line_has_no, head_has_no, IsOpening, feed_apart, space_apart, is_opening, signature_has_no, end_has_no, stack_has_no, words_of_stack}
+use Rattle.dim_history_file.proofs.Judged.{frames_ok}
+use Rattle.dim_history_file.proofs.Spelled.{all_sides, line_has_no, head_has_no, IsOpening, feed_apart, space_apart, is_opening, signature_has_no, end_has_no, stack_has_no, words_of_stack}
 
 -- ---- tables that have names
 abbrev has : List ℕ → List (List ℕ) → Bool
@@ -175,6 +178,23 @@ gather_end start all now h q = sym (or_false (has q now)) ∙ h q
 pub put_none : (old now : List (List ℕ)) → now ≡ [] → HasNamesOf old now old
 put_none old now none q = sym (or_false (has q old)) ∙ ap (λ ns. has q old || has q ns) (sym none)
 
+-- the name of a word whose name is there already
+put_again : (old : List (List ℕ)) (name : List ℕ) → has name old ≡ true → HasNamesOf old (name ∷ []) old
+put_again old name there q =
+    elim (cases_Bool (bytes_eq q name)) [
+      | inl same ↦
+          let h : has q old ≡ true = ap (λ x. has x old) ((bytes_eq-Decides q name).0 same) ∙ there in
+          h ∙ sym (ap (λ b. b || (bytes_eq q name || false)) h)
+      | inr other ↦ sym (or_false (has q old)) ∙ ap (λ b. has q old || (b || false)) (sym other)
+    ]
+
+pub put_known : (old : List (List ℕ)) (word function offset : List ℕ) → sides_of word ≡ Some (function, offset) → has function old ≡ true → HasNamesOf old (names_in_word word) old
+put_known old word function offset e there =
+    elim (cases_Bool (is_name function)) [
+      | inl is ↦ subst (λ ns. HasNamesOf old ns old) (sym (ap name_in e ∙ cond-true (is_name function) (function ∷ []) [] is)) (put_again old function there)
+      | inr other ↦ put_none old (names_in_word word) (ap name_in e ∙ cond-false (is_name function) (function ∷ []) [] other)
+    ]
+
 -- a name that a text has before a colon
 names_are : (word q : List ℕ) → has q (names_in_word word) ≡ true → IsName q
 names_are word q e = go (sides_of word) e
@@ -227,6 +247,26 @@ pub renamed : (to from : List (List ℕ)) (f : Frame) (n : ℕ) (name : List ℕ
 renamed to from f n name e is =
     ap (λ x. let g : NamedFrame = record { name = x; at = f.at } in g) (found_name to name n e ∙ sym (get_or_from_slice_get from f.func name [] is))
 
+-- the numbers of a table's names in another
+pub numbers_length : (to from : List (List ℕ)) (numbers : List ℕ) → AreNumbersIn to from numbers → length numbers ≡ length from
+numbers_length to from numbers h = sym (length-map numbers (λ n. Some n)) ∙ ap length h ∙ length-map from (number_of to)
+
+number_read : (to from : List (List ℕ)) (numbers : List ℕ) → AreNumbersIn to from numbers → (n m : ℕ) → n < length from → slice_get numbers n ≡ Some m → number_of to (name_of from n) ≡ Some m
+number_read to from numbers h n m within is =
+    let e : Some (Some m) ≡ Some (number_of to (name_of from n)) =
+    ap (option_map (λ k. Some k)) (sym is)
+    ∙ sym (slice_get-map (λ k. Some k) numbers n)
+    ∙ ap (λ ks. slice_get ks n) h
+    ∙ slice_get-map (number_of to) from n
+    ∙ ap (option_map (number_of to)) (slice_get-get_or from n [] within) in
+    cc
+
+pub frame_renamed : (to from : List (List ℕ)) (numbers : List ℕ) → AreNumbersIn to from numbers → (f : Frame) (n : ℕ) → f.func < length from → slice_get numbers f.func ≡ Some n
+    → (named_frame to (record { func = n; at = f.at }) ≡ named_frame from f) × (n < length to)
+frame_renamed to from numbers h f n within is =
+    let at = number_read to from numbers h f.func n within is in
+    (renamed to from f n (name_of from f.func) at (slice_get-get_or from f.func [] within), found_within to (name_of from f.func) n at)
+
 -- the frame that a word spells
 pub frame_read : (word function offset name : List ℕ) (at : ℕ) → sides_of word ≡ Some (function, offset) → name_of_word function ≡ Some name → number_in 65535 offset ≡ Some at → frame_of word ≡ Ok (record { name = name; at = at })
 unfolding frame_of
@@ -236,18 +276,46 @@ pub name_there : (word function offset : List ℕ) → sides_of word ≡ Some (f
 name_there word function offset e is =
     ap (λ sides. has function (name_in sides)) e ∙ ap (λ ns. has function ns) (cond-true (is_name function) (function ∷ []) [] is) ∙ has_itself function []
 
-pub name_found : (table : List (List ℕ)) (word function offset name bytes : List ℕ) (r : Option ℕ) → HasNames table (names_in_word word) → sides_of word ≡ Some (function, offset) → name_of_word function ≡ Some name → bytes ≡ name
-    → r ≡ number_of table bytes → IsSome r
-name_found table word function offset name bytes r known e f is at =
-    let h = name_ok function name f in
-    let there = name_there word function offset e (subst IsName (sym h.0) h.1) in
-    some_number table bytes r at (contains_has bytes table (known bytes (has_contains bytes (names_in_word word) (subst (λ x. has x (names_in_word word) ≡ true) (h.0 ∙ sym is) there))))
+-- the name whose number was asked for
+pub number_named : (table : List (List ℕ)) → All IsName table → (name : List ℕ) (n : ℕ) → number_of table name ≡ Some n → IsName name
+number_named table h name n e =
+    let at = found table name n e in
+    subst IsName (get_or_from_slice_get table n name [] at) (h n [] (slice_get_within table n name at))
 
-pub frame_value : (table : List (List ℕ)) (word function offset name bytes : List ℕ) (at n : ℕ) → sides_of word ≡ Some (function, offset) → name_of_word function ≡ Some name → number_in 65535 offset ≡ Some at → bytes ≡ name
-    → number_of table bytes ≡ Some n → frame_of word ≡ Ok (named_frame table (record { func = n; at = at }))
-frame_value table word function offset name bytes at n e f g is h =
-    frame_read word function offset name at e f g
-    ∙ ap (λ x. let y : NamedFrame = record { name = x; at = at } in Ok y) (sym (found_name table bytes n h ∙ is))
+named_itself : (name : List ℕ) → IsName name → name_of_word name ≡ Some name
+unfolding name_of_word
+named_itself name is = cond-true (is_name name) (Some name) None is
+
+no_name : (table : List (List ℕ)) (word function offset : List ℕ) → HasNames table (names_in_word word) → sides_of word ≡ Some (function, offset) → number_of table function ≡ None → name_of_word function ≡ None
+unfolding name_of_word
+no_name table word function offset known e none =
+    elim (cases_Bool (is_name function)) [
+      | inl is ↦ absurd (numbered table function (contains_has function table (known function (has_contains function (names_in_word word) (name_there word function offset e is)))) none)
+      | inr other ↦ cond-false (is_name function) (Some function) None other
+    ]
+
+pub frame_no_name : (table : List (List ℕ)) (word function offset : List ℕ) → HasNames table (names_in_word word) → sides_of word ≡ Some (function, offset) → number_of table function ≡ None → frame_of word ≡ Err Name
+unfolding frame_of
+frame_no_name table word function offset known e none = rw (e, no_name table word function offset known e none) refl
+
+pub frame_no_number : (word function offset : List ℕ) → sides_of word ≡ Some (function, offset) → IsName function → number_in 65535 offset ≡ None → frame_of word ≡ Err Number
+unfolding frame_of
+frame_no_number word function offset e is none = rw (e, named_itself function is, none) refl
+
+pub frame_value : (table : List (List ℕ)) (word function offset : List ℕ) (at n : ℕ) → sides_of word ≡ Some (function, offset) → IsName function → number_in 65535 offset ≡ Some at → number_of table function ≡ Some n
+    → frame_of word ≡ Ok (named_frame table (record { func = n; at = at }))
+frame_value table word function offset at n e is g h =
+    frame_read word function offset function at e (named_itself function is) g
+    ∙ ap (λ x. let y : NamedFrame = record { name = x; at = at } in Ok y) (sym (found_name table function n h))
+
+-- the stack that words spell
+pub stack_read : (words : List (List ℕ)) (fs : List NamedFrame) → frames_of words ≡ Ok fs → length words ≤ 32 → stack_of words ≡ Ok fs
+unfolding stack_of
+stack_read words fs e few =
+    let p = frames_ok words fs e in
+    let sides : list_all has_sides words ≡ true = ap (list_all has_sides) p.0 ∙ all_sides fs p.1 in
+    let short : nat_lt 32 (length words) ≡ false = le-ltb 32 (length words) few in
+    rw (sides, short, e) refl
 
 pub name_in_word : (word function offset : List ℕ) (r : Option (Bor (List ℕ))) → sides_of word ≡ Some (function, offset) → option_map (λ s. s.now) r ≡ name_of_word function
     → MatchOption r (names_in_word word ≡ []) (λ name. names_in_word word ≡ name.now ∷ [])

@@ -1,5 +1,5 @@
 -- What a history means: its signatures, with functions read as names.
-use Rattle.std.specs.Prelude.{ℕ, Bool, true, nat_eq, All, List, map}
+use Rattle.std.specs.Prelude.{◌≡◌, ℕ, Bool, true, nat_eq, All, List, Some, map}
 use Rattle.std.specs.Option.{unwrap_or}
 use Rattle.std.specs.List.{flat_map, list_any}
 use Rattle.std.specs.Ordering.{nat_cmp, on, then_cmp, eq_of_both}
@@ -32,6 +32,10 @@ named_sig names s = record { depth = s.depth; stacks = map (named_stack names) s
 
 abbrev pub named : List (List ℕ) → List Sig → List NamedSig
 named names sigs = map (named_sig names) sigs
+
+-- for each name of a table, its number in another
+abbrev pub AreNumbersIn : List (List ℕ) → List (List ℕ) → List ℕ → Type 0
+AreNumbersIn to from numbers = map (λ n. Some n) numbers ≡ map (number_of to) from
 
 -- names read as their numbers in a table
 abbrev pub numbered_frame : List (List ℕ) → NamedFrame → Frame

@@ -1,19 +1,20 @@
 //! The stack that a line spells.
-ghost use Rattle.std.specs.Prelude.{◌≡◌, ◌<◌, Some, nat_lt, length, map, IfOk};
+ghost use Rattle.std.specs.Prelude.{◌≡◌, ◌<◌, ◌≤◌, Err, Some, nat_lt, length, map, IfOk, IfSome};
 ghost use Rattle.std.specs.List.{list_all};
 ghost use Rattle.dim_text.specs.Reading.{Gives};
 ghost use Rattle.dim_text.specs.Cuts.{words_of};
+ghost use Rattle.dim_text.specs.Naming.{IsName};
 ghost use Rattle.dim_text.specs.Words.{has_sides};
-ghost use Rattle.dim_stack.specs.Names.{IsNamedBy, HasNames};
-ghost use Rattle.dim_text.specs.Stops.{kind_of};
+ghost use Rattle.dim_stack.specs.Names.{IsNamedBy, HasNames, number_of};
 ghost use Rattle.dim_history_file.specs.Value.{named_frame, named_stack};
 ghost use Rattle.dim_history_file.specs.Judging.{frame_of, frames_of, stack_of};
 ghost use Rattle.dim_history_file.specs.Naming.{names_in_word, names_in_words, names_in_line};
 
 use crate::FileKind;
+use crate::recent::Recent;
+use arrayvec::ArrayVec;
 use dim_stack::{Frame, MOST_FRAMES, Names, Stack};
-use dim_text::{Parts, Stop, frame_sides, name, number, unless};
-use std::alloc::Global;
+use dim_text::{Parts, frame_sides, number};
 
 const LAST_OFFSET: u32 = 65535;
 
@@ -45,42 +46,77 @@ fn are_many(mut words: Parts) -> bool
 
 // The frame that a word spells, where the table has the name.
 #[tactic(auto, unfolding(crate::specs::Judging::frame_of))]
-fn frame(names: &Names, word: &[u8]) -> Result<Frame, FileKind>
+fn frame(names: &Names, recent: &mut Recent, word: &[u8]) -> Result<Frame, FileKind>
     requires { HasNames names.now (names_in_word word.now) }
     ensures value { Gives Some (named_frame names.now) result (frame_of word.now) }
     ensures named { IfOk result (λ f. f.func < length names.now) }
 {
-    let (function, offset) = frame_sides(word).ok_or(FileKind::Line)?;
-    let function = name(function).ok_or(FileKind::Name)?;
+    let (name, offset) = frame_sides(word).ok_or(FileKind::Line)?;
+    let func = found(names, recent, name).ok_or(FileKind::Name)?;
     let at = number(offset, LAST_OFFSET).ok_or(FileKind::Number)?;
-    let func = names.find(function.as_bytes()).unwrap();
     Ok(Frame { func, at })
 }
 
-// The frames that words spell.
-fn frames(alloc: Global, names: &Names, mut words: Parts) -> Result<Vec<Frame>, Stop<FileKind>>
+// The number of a name, which is noted where it was not guessed.
+fn found(names: &Names, recent: &mut Recent, name: &[u8]) -> Option<u32>
+    ensures number { result ≡ number_of names.now name.now }
+    ensures name { IfSome result (λ _. IsName name.now) }
+{
+    let _table = names.len();
+    let guess = recent.guess(name);
+    let number = names.find_with_guess(name, guess)?;
+    if number != guess {
+        recent.note(name, number);
+    }
+    Some(number)
+}
+
+// The frames that words spell, of which there may be 32.
+fn frames(
+    names: &Names,
+    recent: &mut Recent,
+    mut words: Parts,
+) -> Result<ArrayVec<Frame, MOST_FRAMES>, FileKind>
     requires { HasNames names.now (names_in_words words) }
-    ensures value { Gives kind_of (λ fs. map (named_frame names.now) fs.items) result
-        (frames_of words.entry) }
+    ensures value { length words.entry ≤ 32
+        → Gives Some (λ fs. map (named_frame names.now) fs.items) result (frames_of words.entry) }
     ensures named { IfOk result (λ fs. IsNamedBy names.now fs.items) }
     ensures len { IfOk result (λ fs. length fs.items ≡ length words.entry) }
 {
-    let mut frames = Vec::new(alloc);
+    let mut frames = ArrayVec::new();
     while let Some(word) = words.next_part() {
-        frames.push(frame(names, word)?)?;
+        if frames.is_full() {
+            return Err(FileKind::Limit);
+        }
+        frames.push(frame(names, recent, word)?);
     }
     Ok(frames)
 }
 
+// The kind of fault of a line that spells no stack. It is this one where the fault is that of a frame.
+#[tactic(auto, unfolding(crate::specs::Judging::stack_of))]
+fn fault_of_line(line: &[u8], kind: FileKind) -> FileKind
+    requires { length (words_of line.now) ≤ 32 → frames_of (words_of line.now) ≡ Err kind }
+    ensures { stack_of (words_of line.now) ≡ Err result }
+{
+    if !are_frames(Parts::words(line)) {
+        FileKind::Line
+    } else if are_many(Parts::words(line)) {
+        FileKind::Limit
+    } else {
+        kind
+    }
+}
+
 /// The stack that a line spells, where the table has its names.
 #[tactic(auto, unfolding(crate::specs::Judging::stack_of))]
-pub fn stack(alloc: Global, names: &Names, line: &[u8]) -> Result<Stack, Stop<FileKind>>
+pub fn stack(names: &Names, recent: &mut Recent, line: &[u8]) -> Result<Stack, FileKind>
     requires { HasNames names.now (names_in_line line.now) }
-    ensures value { Gives kind_of (named_stack names.now) result (stack_of (words_of line.now)) }
+    ensures value { Gives Some (named_stack names.now) result (stack_of (words_of line.now)) }
     ensures named { IfOk result (IsNamedBy names.now) }
 {
-    unless(!are_frames(Parts::words(line)), FileKind::Line)?;
-    unless(are_many(Parts::words(line)), FileKind::Limit)?;
-    let frames = frames(alloc, names, Parts::words(line))?;
-    Ok(Stack::new(&frames))
+    match frames(names, recent, Parts::words(line)) {
+        Ok(frames) => Ok(Stack::new(frames.as_slice())),
+        Err(kind) => Err(fault_of_line(line, kind)),
+    }
 }

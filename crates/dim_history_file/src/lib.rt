@@ -9,6 +9,7 @@ mod names;
 mod opening;
 mod reader;
 mod reading;
+mod recent;
 mod renaming;
 mod signing;
 mod version;

@@ -15,6 +15,7 @@ ghost use Rattle.dim_history_file.specs.Signing.{opened};
 use crate::fault::in_line;
 use crate::frames::stack;
 use crate::opening::{Form, Opening};
+use crate::recent::Recent;
 use crate::signing::{enter, signature};
 use crate::version::Version;
 use crate::{FileKind, ReadFault};
@@ -47,6 +48,8 @@ pub struct Reader {
     pub stage: Stage,
     // The names of all functions of the text.
     pub names: Names,
+    // Where some of them were found last.
+    pub recent: Recent,
     pub catalogue: Catalogue,
     // The stacks of the signature that is being read.
     pub stacks: Vec<Stack>,
@@ -67,6 +70,7 @@ impl Reader {
             version: Version::Two,
             stage: Stage::Head,
             names,
+            recent: Recent::new(),
             catalogue: Catalogue::new(alloc),
             stacks: Vec::new(alloc),
         }
@@ -177,7 +181,7 @@ impl Reader {
         ensures names { self.new.names ≡ self.old.names }
         ensures reading { OnOk result (IsReading self.new) }
     {
-        let stack = stack(alloc, &self.names, line)?;
+        let stack = stack(&self.names, &mut self.recent, line)?;
         unless(self.is_less_than_last(&stack), FileKind::Unsorted)?;
         self.stacks.push(stack)?;
         if self.stacks.len() < opening.count as usize {

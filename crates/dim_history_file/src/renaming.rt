@@ -1,17 +1,18 @@
 //! A history in another table of names.
-ghost use Rattle.std.specs.Prelude.{◌≡◌, ◌<◌, ◌++◌, ◌∷◌, [], All, IfOk, None, OnOk, length, map};
-ghost use Rattle.dim_stack.specs.Names.{IsNamedBy, HasNames};
+ghost use Rattle.std.specs.Prelude.{◌≡◌, ◌++◌, ◌∷◌, [], IfOk, None, OnOk, map};
+ghost use Rattle.dim_stack.specs.Names.{HasNames};
 ghost use Rattle.dim_signature.specs.Refusal.{refusal_of};
-ghost use Rattle.dim_history_file.specs.Value.{named_frame, named_stack, named_sig, named, AreNamed};
+ghost use Rattle.dim_history_file.specs.Value.{AreNumbersIn, named, AreNamed};
 ghost use Rattle.dim_history_file.specs.Grammar.{AreNear};
 ghost use Rattle.dim_history_file.specs.Seen.{value_of};
 
 use crate::History;
 use crate::opening::Opening;
 use crate::signing::signature;
+use arrayvec::ArrayVec;
 use dim_base::OutOfMemory;
 use dim_signature::{Add, Catalogue, Signature};
-use dim_stack::{Frame, Names, Stack};
+use dim_stack::{Frame, MOST_FRAMES, Names, Stack};
 use std::alloc::Global;
 
 // A table with the same names.
@@ -23,73 +24,91 @@ fn copied(alloc: Global, names: &Names) -> Result<Names, OutOfMemory>
     Names::merge(alloc, names, &none)
 }
 
-// A frame of the same function and offset.
-fn renamed_frame(from: &Names, to: &Names, frame: Frame) -> Frame
-    requires within { frame.func < length from.now }
-    requires covers { HasNames to.now from.now }
-    ensures same { named_frame to.now result ≡ named_frame from.now frame }
-    ensures within { result.func < length to.now }
-{
-    let name = from.name(frame.func);
-    Frame {
-        func: to.number(name).unwrap(),
-        at: frame.at,
-    }
+// Two tables of names, and for each name of the first its number in the second.
+#[derive(Drop)]
+struct Renaming<'a> {
+    from: &'a Names,
+    to: &'a Names,
+    numbers: Vec<u32>,
+    ghost right: { AreNumbersIn to.now from.now numbers.items },
 }
 
-fn renamed_stack(
-    alloc: Global,
-    from: &Names,
-    to: &Names,
-    stack: &Stack,
-) -> Result<Stack, OutOfMemory>
-    requires named { IsNamedBy from.now stack.now }
-    requires covers { HasNames to.now from.now }
-    ensures same { IfOk result (λ s. named_stack to.now s ≡ named_stack from.now stack.now) }
-    ensures named { IfOk result (IsNamedBy to.now) }
+// The number of each name in another table, in which it has to stand.
+fn numbers_in(alloc: Global, from: &Names, to: &Names) -> Result<Vec<u32>, OutOfMemory>
+    requires { HasNames to.now from.now }
+    ensures { IfOk result (λ ns. AreNumbersIn to.now from.now ns.items) }
 {
-    let _some = stack.len();
-    let mut frames = Vec::new(alloc);
-    for frame in stack.as_slice() {
-        frames.push(renamed_frame(from, to, *frame))?;
+    let mut numbers = Vec::with_capacity(alloc, from.len() as usize)?;
+    for n in 0..from.len() {
+        numbers.push(to.number(from.name(n)).unwrap())?;
     }
-    Ok(Stack::new(&frames))
+    Ok(numbers)
 }
 
-fn renamed_stacks(
-    alloc: Global,
-    from: &Names,
-    to: &Names,
-    stacks: &[Stack],
-) -> Result<Vec<Stack>, OutOfMemory>
-    requires named { All (IsNamedBy from.now) stacks.now }
-    requires covers { HasNames to.now from.now }
-    ensures same { IfOk result
-        (λ s. map (named_stack to.now) s.items ≡ map (named_stack from.now) stacks.now) }
-    ensures named { IfOk result (λ s. All (IsNamedBy to.now) s.items) }
-{
-    let mut renamed = Vec::new(alloc);
-    for stack in stacks {
-        renamed.push(renamed_stack(alloc, from, to, stack)?)?;
-    }
-    Ok(renamed)
-}
+impl<'a> Renaming<'a> {
+    ghost use Rattle.std.specs.Prelude.{◌≡◌, ◌<◌, All, IfOk, length, map};
+    ghost use Rattle.dim_stack.specs.Names.{IsNamedBy, HasNames};
+    ghost use Rattle.dim_history_file.specs.Value.{named_frame, named_stack, named_sig};
 
-// The same signature.
-fn renamed_sig(
-    alloc: Global,
-    from: &Names,
-    to: &Names,
-    sig: &Signature,
-) -> Result<Signature, OutOfMemory>
-    requires named { All (IsNamedBy from.now) sig.now.stacks }
-    requires covers { HasNames to.now from.now }
-    ensures same { IfOk result (λ s. named_sig to.now s ≡ named_sig from.now sig.now) }
-    ensures named { IfOk result (λ s. All (IsNamedBy to.now) s.stacks) }
-{
-    let _tables = (from.len(), to.len());
-    let stacks = renamed_stacks(alloc, from, to, sig.as_slice())?;
-    signature(alloc, Opening::of(sig), &stacks)
+    fn new(alloc: Global, from: &'a Names, to: &'a Names) -> Result<Renaming<'a>, OutOfMemory>
+        requires { HasNames to.now from.now }
+        ensures from { IfOk result (λ r. r.from.now ≡ from.now) }
+        ensures to { IfOk result (λ r. r.to.now ≡ to.now) }
+    {
+        let numbers = numbers_in(alloc, from, to)?;
+        Ok(Renaming { from, to, numbers })
+    }
+
+    // A frame of the same function and offset.
+    fn frame(&self, frame: Frame) -> Frame
+        requires { frame.func < length self.now.from.now }
+        ensures same { named_frame self.now.to.now result ≡ named_frame self.now.from.now frame }
+        ensures within { result.func < length self.now.to.now }
+    {
+        Frame {
+            func: self.numbers[frame.func as usize],
+            at: frame.at,
+        }
+    }
+
+    fn stack(&self, stack: &Stack) -> Stack
+        requires { IsNamedBy self.now.from.now stack.now }
+        ensures same { named_stack self.now.to.now result
+            ≡ named_stack self.now.from.now stack.now }
+        ensures named { IsNamedBy self.now.to.now result }
+    {
+        let _some = stack.len();
+        let mut frames = ArrayVec::<Frame, MOST_FRAMES>::new();
+        for frame in stack.as_slice() {
+            frames.push(self.frame(*frame));
+        }
+        Stack::new(frames.as_slice())
+    }
+
+    fn stacks(&self, alloc: Global, stacks: &[Stack]) -> Result<Vec<Stack>, OutOfMemory>
+        requires { All (IsNamedBy self.now.from.now) stacks.now }
+        ensures same { IfOk result (λ s. map (named_stack self.now.to.now) s.items
+            ≡ map (named_stack self.now.from.now) stacks.now) }
+        ensures named { IfOk result (λ s. All (IsNamedBy self.now.to.now) s.items) }
+    {
+        let mut renamed = Vec::with_capacity(alloc, stacks.len())?;
+        for stack in stacks {
+            renamed.push(self.stack(stack))?;
+        }
+        Ok(renamed)
+    }
+
+    // The same signature.
+    fn sig(&self, alloc: Global, sig: &Signature) -> Result<Signature, OutOfMemory>
+        requires { All (IsNamedBy self.now.from.now) sig.now.stacks }
+        ensures same { IfOk result
+            (λ s. named_sig self.now.to.now s ≡ named_sig self.now.from.now sig.now) }
+        ensures named { IfOk result (λ s. All (IsNamedBy self.now.to.now) s.stacks) }
+    {
+        let _tables = (self.from.len(), self.to.len());
+        let stacks = self.stacks(alloc, sig.as_slice())?;
+        signature(alloc, Opening::of(sig), &stacks)
+    }
 }
 
 // Appends a signature whose stacks no other has, to fewer than 4,096.
@@ -111,9 +130,10 @@ fn renamed_catalogue(alloc: Global, h: &History, names: &Names) -> Result<Catalo
     ensures named { IfOk result (λ c. AreNamed names.now c.sigs) }
 {
     let _tables = (h.names.len(), names.len());
+    let renaming = Renaming::new(alloc, &h.names, names)?;
     let mut catalogue = Catalogue::new(alloc);
     for i in 0..h.catalogue.len() {
-        let sig = renamed_sig(alloc, &h.names, names, h.catalogue.get(i))?;
+        let sig = renaming.sig(alloc, h.catalogue.get(i))?;
         append(&mut catalogue, sig)?;
     }
     Ok(catalogue)

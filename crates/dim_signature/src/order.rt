@@ -1,5 +1,5 @@
 //! The numbers of signatures in the order of their stacks.
-ghost use Rattle.std.specs.Prelude.{◌≡◌, ◌++◌, ◌∷◌, ◌+◌, ◌<◌, ◌≤◌, [], length, IfErr, vec_capacity};
+ghost use Rattle.std.specs.Prelude.{◌≡◌, ◌++◌, ◌∷◌, ◌+◌, ◌<◌, ◌≤◌, [], length, IfErr, IsTrue, vec_capacity};
 ghost use Rattle.std.specs.Result.{result_ok};
 ghost use Rattle.dim_signature.specs.Catalogue.{number_of};
 ghost use Rattle.dim_signature.specs.Order.{BelongsAt, IsOrder, stacks_at, stacks_cmp};
@@ -10,6 +10,29 @@ use std::cmp::Ordering;
 
 /// The number of the signature with these stacks, or the place in the order where they belong.
 pub fn search(list: &[Signature], order: &[u32], stacks: &[Stack]) -> Result<u32, usize>
+    requires { IsOrder list.now order.now }
+    ensures number { result_ok result ≡ number_of list.now stacks.now }
+    ensures place { IfErr result (BelongsAt list.now order.now stacks.now) }
+{
+    if are_last(list, order, stacks) {
+        return Err(order.len());
+    }
+    search_all(list, order, stacks)
+}
+
+// Whether these stacks belong behind all in the order, as where signatures come in order.
+fn are_last(list: &[Signature], order: &[u32], stacks: &[Stack]) -> bool
+    requires { IsOrder list.now order.now }
+    ensures { IsTrue result → BelongsAt list.now order.now stacks.now (length order.now) }
+{
+    match order.len() {
+        0 => true,
+        n => compare_at(list, order, n - 1, stacks).is_lt(),
+    }
+}
+
+// What `search` answers, by halves.
+fn search_all(list: &[Signature], order: &[u32], stacks: &[Stack]) -> Result<u32, usize>
     requires { IsOrder list.now order.now }
     ensures number { result_ok result ≡ number_of list.now stacks.now }
     ensures place { IfErr result (BelongsAt list.now order.now stacks.now) }

@@ -23,7 +23,7 @@ pub const MOST_FRAMES: usize = 32;
 /// A function, by its number, and the offset of an instruction in it.
 ///
 /// Frames are ordered by function, and then by offset.
-#[derive(Clone, Copy, Debug, PartialEq, Eq, PartialOrd, Ord)]
+#[derive(Clone, Copy, Debug, Default, PartialEq, Eq, PartialOrd, Ord)]
 pub struct Frame {
     /// The number of the function.
     pub func: u32,

@@ -1,5 +1,5 @@
 //! Names of functions, by their numbers.
-ghost use Rattle.std.specs.Prelude.{◌≡◌, ◌+◌, ◌++◌, ◌<◌, ◌^◌, All, IfOk, OnOk, length, slice_get};
+ghost use Rattle.std.specs.Prelude.{◌≡◌, ◌+◌, ◌++◌, ◌<◌, ◌^◌, All, IfOk, IsTrue, OnOk, Some, length, slice_get};
 ghost use Rattle.dim_text.specs.Naming.{IsName};
 ghost use Rattle.dim_stack.specs.Names.{HasNamesOf, IsTable, number_of, table_of};
 
@@ -36,6 +36,17 @@ impl Names {
     {
         let mut table = IndexSet::new(alloc);
         add_words(alloc, &mut table, words)?;
+        sort_words(&mut table)?;
+        Ok(Names { table })
+    }
+
+    /// The table of the names of a set, which takes no memory for them.
+    pub fn of_set(set: IndexSet<Word>) -> Result<Names, OutOfMemory>
+        requires few { length set.keys < 2 ^ 32 }
+        requires named { All IsName set.keys }
+        ensures { IfOk result (λ n. n ≡ table_of set.keys) }
+    {
+        let mut table = set;
         sort_words(&mut table)?;
         Ok(Names { table })
     }
@@ -82,6 +93,23 @@ impl Names {
             Ok(i) => Some(i as u32),
             Err(_) => None,
         }
+    }
+
+    /// What `find` answers, which is fast where the name has the number `guess`.
+    pub fn find_with_guess(&self, name: &[u8], guess: u32) -> Option<u32>
+        ensures { result ≡ number_of self.now name.now }
+    {
+        if self.has_number(name, guess) {
+            return Some(guess);
+        }
+        self.find(name)
+    }
+
+    // Whether this is the number of the name that a text spells.
+    fn has_number(&self, name: &[u8], number: u32) -> bool
+        ensures { IsTrue result → number_of self.now name.now ≡ Some number }
+    {
+        number < self.len() && self.name(number).as_slice() == name
     }
 
     /// The name with a number. It needs `n` below the length.

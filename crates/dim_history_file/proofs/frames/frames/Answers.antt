@@ -34,7 +34,7 @@ loop-word-preserved c =
     let f = c.in_ok-frame.field-0 in
     let word = c.in-Some.word.now in
     let rest = c.next_part.new.self in
-    let more : new ≡ fs ++ f ∷ [] = c.in_ok-push.ensures.items in
+    let more : new ≡ fs ++ f ∷ [] = c.push.ensures.items in
     record {
       same = frames_step names c.args.words c.loop-word.words rest word fs new f c.loop-word.invariant.same c.in-Some.ensures c.in_ok-frame.ensures.value more;
       named = subst (IsNamedBy names) (sym more) (All-push (λ (g : Frame). g.func < length names) fs f c.loop-word.invariant.named c.in_ok-frame.ensures.named);

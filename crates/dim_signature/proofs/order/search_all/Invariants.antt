@@ -1,7 +1,7 @@
 use Rattle.std.proofs.Common.{◌≡◌, ◌-◌, ◌<◌, ◌≤◌, ℕ, length}
 use Rattle.std.specs.declared.cmp.Ordering.TheVariants.{Less, Greater}
 use Rattle.dim_signature.specs.Order.{stacks_at, stacks_cmp}
-use Rattle.dim_signature.proofs.order.search.Given as goal
+use Rattle.dim_signature.proofs.order.search_all.Given as goal
 
 -- the stacks below are lesser, and those from the upper end on are greater
 abbrev pub invariant-loop-low : goal.invariant-loop-low

@@ -1,0 +1,35 @@
+//! Where names were found last.
+
+/// For names that come again soon, the place where each stood when it was last found.
+///
+/// Names may share an entry, so a place is a guess: who asks looks whether the name stands there.
+#[derive(Drop)]
+pub struct Recent {
+    places: [u32; 256],
+}
+
+impl Recent {
+    /// Nothing was found yet.
+    pub fn new() -> Recent {
+        Recent { places: [0; 256] }
+    }
+
+    /// Where a name may stand.
+    pub fn guess(&self, name: &[u8]) -> u32 {
+        self.places[usize::from(entry_of(name))]
+    }
+
+    /// Notes where a name stands.
+    pub fn note(&mut self, name: &[u8], place: u32) {
+        self.places[usize::from(entry_of(name))] = place;
+    }
+}
+
+// The entry of a name, for which each of its bytes counts.
+fn entry_of(name: &[u8]) -> u8 {
+    let mut entry = 0u8;
+    for byte in name {
+        entry = entry.wrapping_mul(37).wrapping_add(*byte);
+    }
+    entry
+}
