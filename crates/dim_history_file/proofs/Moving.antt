@@ -17,7 +17,6 @@ use Rattle.dim_text.specs.Words.{unless}
 use Rattle.dim_text.proofs.WordLemmas.{chosen, unless_ok}
 use Rattle.dim_history_file.specs.declared.fault.FileKind.{FileKind}
 use Rattle.dim_history_file.specs.declared.fault.FileKind.TheVariants.{Head as head_kind, Unsorted}
-use Rattle.dim_history_file.specs.declared.fault.FileFault.{FileFault}
 use Rattle.dim_history_file.specs.declared.opening.Opening.{Opening}
 use Rattle.dim_history_file.specs.declared.version.Version.{Version}
 use Rattle.dim_history_file.specs.declared.version.Version.TheVariants.{One, Two}

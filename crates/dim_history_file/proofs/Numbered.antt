@@ -1,12 +1,12 @@
 -- Numbers read as names, and these as numbers again.
-use Rattle.std.proofs.Common.{◌≡◌, ◌<◌, ℕ, List, [], ◌∷◌, length, map, All, Some, refl, ap, ap₂, ◌∙◌}
+use Rattle.std.proofs.Common.{◌≡◌, ◌<◌, ℕ, List, [], ◌∷◌, length, map, All, refl, ap, ap₂}
 use Rattle.std.specs.Option.{unwrap_or}
 use Rattle.std.proofs.lemmas.List.Elements.{All-head, All-tail}
 use Rattle.std.proofs.lemmas.Option.{slice_get-get_or}
 use Rattle.dim_stack.specs.declared.Frame.{Frame}
 use Rattle.dim_stack.specs.Names.{AreAscending, OwnLaw, IsNamedBy, name_of}
 use Rattle.dim_signature.specs.Sig.{Sig}
-use Rattle.dim_history_file.specs.Value.{named_frame, named_stack, named_sig, named, numbered_frame, numbered_stack, numbered_sig, numbered, AreNamed}
+use Rattle.dim_history_file.specs.Value.{named_frame, named_stack, named, numbered_frame, numbered_stack, numbered, AreNamed}
 
 frame_again : OwnLaw → (names : List (List ℕ)) → AreAscending names → (f : Frame) → f.func < length names → numbered_frame names (named_frame names f) ≡ f
 frame_again own names up f low = ap (λ o. record { func = unwrap_or o 0; at = f.at }) (own names up f.func (name_of names f.func) (slice_get-get_or names f.func [] low))

@@ -1,6 +1,6 @@
 -- A signature in another table has stacks that none before it has.
-use Rattle.std.proofs.Common.{◌≡◌, ◌<◌, ◌≤◌, ℕ, inl, inr, Bool, true, false, ltb, List, length, map, take, get_or, Option, Some, None, All, refl, sym, ap, ap₂, ◌∙◌, subst, arith}
-use Rattle.std.specs.Prelude.{position, slice_get, nat_lt}
+use Rattle.std.proofs.Common.{◌≡◌, ◌<◌, ◌≤◌, ℕ, inl, inr, Bool, false, ltb, List, length, take, Option, Some, None, All, refl, sym, ap, ap₂, ◌∙◌, subst, arith}
+use Rattle.std.specs.Prelude.{position, slice_get}
 use Rattle.std.specs.List.{list_any, position_or_len}
 use Rattle.std.proofs.lemmas.Bool.{cases_Bool, false≢true, cond-true, cond-false, lt-ltb}
 use Rattle.std.proofs.lemmas.List.{length-map, length-take-le, get_or-take}
@@ -10,13 +10,12 @@ use Rattle.std.proofs.lemmas.List.Sums.{fails_before_first}
 use Rattle.std.proofs.lemmas.Option.{get_or_from_slice_get, slice_get_within}
 use Rattle.dim_stack.specs.declared.Frame.{Frame}
 use Rattle.dim_stack.specs.Names.{AreAscending, IsNamedBy}
-use Rattle.dim_signature.specs.declared.catalogue.Add.{Add}
 use Rattle.dim_signature.specs.Sig.{Sig}
 use Rattle.dim_signature.specs.Catalogue.{IsCatalogue, has_stacks, number_of}
 use Rattle.dim_signature.specs.Refusal.{refusal_of}
 use Rattle.dim_signature.specs.Order.{no_sig}
 use Rattle.dim_signature.proofs.Numbers.{own}
-use Rattle.dim_history_file.specs.Value.{NamedSig, named_stack, named_sig, named, AreNamed, have_stacks}
+use Rattle.dim_history_file.specs.Value.{NamedSig, named_sig, named, AreNamed, have_stacks}
 use Rattle.dim_history_file.proofs.Comparing.{have_named, any_at}
 
 first_is : {X : Type 0} (p : X → Bool) (xs : List X) (i : ℕ) → position p xs ≡ Some i → position_or_len p xs ≡ i

@@ -6,7 +6,7 @@ use Rattle.std.specs.Borrow.{Bor}
 use Rattle.std.specs.List.{AllByRecursion, flat_map, list_all, list_any}
 use Rattle.std.specs.Str.{bytes_eq}
 use Rattle.std.specs.Fmt.{decimal}
-use Rattle.std.proofs.lemmas.Bool.{cases_Bool, or_cases, or_left, or_right, cond-true, cond-false, false≢true, false_from_ne_true, le-ltb}
+use Rattle.std.proofs.lemmas.Bool.{cases_Bool, or_cases, or_left, cond-true, cond-false, false≢true, false_from_ne_true, le-ltb}
 use Rattle.std.proofs.lemmas.Cmp.{nat_list_eq_equiv}
 use Rattle.std.proofs.lemmas.Map.Keys.{any_passes_from_place}
 use Rattle.std.proofs.lemmas.Map.Views.{All-from_any}
@@ -27,7 +27,7 @@ use Rattle.dim_text.proofs.NameLemmas.{HasNo-name}
 use Rattle.dim_text.proofs.WordLemmas.{chosen}
 use Rattle.dim_stack.specs.Names.{HasNamesOf, table_of, number_of, name_of, HasNames}
 use Rattle.dim_stack.specs.declared.Frame.{Frame}
-use Rattle.dim_stack.proofs.TableLemmas.{has-table_of, has-append, has_contains, contains_has, has_own, table-same}
+use Rattle.dim_stack.proofs.TableLemmas.{has-append, has_contains, contains_has, has_own, table-same}
 use Rattle.dim_stack.proofs.NumberLemmas.{missing, found}
 use Rattle.dim_history_file.specs.declared.opening.Opening.{Opening}
 use Rattle.dim_history_file.specs.declared.version.Version.{Version}

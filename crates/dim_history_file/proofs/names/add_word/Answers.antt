@@ -1,6 +1,5 @@
 use Rattle.std.proofs.Common.{◌≡◌, ◌∷◌, [], Some, None, OnOk, arith, rules, sym, subst}
 use Rattle.std.proofs.lemmas.Grind.{common_steps}
-use Rattle.dim_text.specs.Cuts.{sides_of}
 use Rattle.dim_stack.specs.Names.{HasNamesOf}
 use Rattle.dim_history_file.specs.Naming.{names_in_word}
 use Rattle.dim_history_file.proofs.Using.{has_place, name_in_word, put_known, put_none}
