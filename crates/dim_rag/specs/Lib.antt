@@ -19,3 +19,4 @@ pub mod Requests
 pub mod Stays
 pub mod Journal
 pub mod Yielded
+pub mod Shown

@@ -12,6 +12,7 @@ mod born;
 mod causes;
 mod cycles;
 mod fits;
+mod holder;
 mod row;
 mod set;
 mod starving;
@@ -21,7 +22,8 @@ mod trail;
 
 use crate::entry::{Edge, Entry, Mode};
 use dim_base::{Lid, OutOfMemory, Tid};
-use row::{Row, birth_held_by, held_by, owner_of, replay};
+use holder::Holder;
+use row::{Row, replay};
 pub use set::{is_member, without};
 use std::alloc::Global;
 use std::marker::Model;
@@ -38,7 +40,7 @@ pub struct Graph {
     locks: u32,
     spare: u32,
     rows: Vec<Row>,
-    holders: Vec<Option<Edge>>,
+    holders: Vec<Holder>,
     /// How often each lock is held.
     counts: Vec<u8>,
     told: Told,
@@ -169,7 +171,7 @@ impl Graph {
             → result ≡ Some x }
         ensures thread { IfSome result (λ e. e.t.0 < self.now.threads) }
     {
-        self.holders[l.0 as usize]
+        self.holders[l.0 as usize].edge()
     }
 
     /// The thread that holds a lock; none exactly where no thread does. It copies no edge.
@@ -178,7 +180,7 @@ impl Graph {
         ensures { result
             ≡ option_map (λ (e : Edge). e.t) (holder self.now.threads l.0 (past self.now.entries)) }
     {
-        owner_of(&self.holders[l.0 as usize])
+        self.holders[l.0 as usize].owner()
     }
 
     /// The birth of the hold edge of a thread on a lock; none exactly where the thread doesn't hold it. It copies no edge.
@@ -187,7 +189,7 @@ impl Graph {
         ensures { result
             ≡ option_map (λ (e : Edge). e.birth) (hold t.0 l.0 (past self.now.entries)) }
     {
-        birth_held_by(t, &self.holders[l.0 as usize])
+        self.holders[l.0 as usize].birth_held_by(t)
     }
 
     /// How often a lock is held by its holder, from 1 to 255, and 0 exactly where it is free.
@@ -209,7 +211,7 @@ impl Graph {
         requires { l.0 < self.now.locks }
         ensures { result ≡ hold t.0 l.0 (past self.now.entries) }
     {
-        held_by(t, self.holders[l.0 as usize])
+        self.holders[l.0 as usize].held_by(t)
     }
 }
 
@@ -225,12 +227,12 @@ fn idle_rows(alloc: Global, threads: u32) -> Result<Vec<Row>, OutOfMemory>
 }
 
 /// No holder for each lock.
-fn free_holders(alloc: Global, locks: u32) -> Result<Vec<Option<Edge>>, OutOfMemory>
+fn free_holders(alloc: Global, locks: u32) -> Result<Vec<Holder>, OutOfMemory>
     ensures { IfOk result (λ holders. holders.items ≡ replicate locks None) }
 {
     let mut holders = Vec::new(alloc);
     for _ in 0..locks {
-        holders.push(None)?;
+        holders.push(Holder::none())?;
     }
     Ok(holders)
 }

@@ -1,6 +1,7 @@
 //! The entries of a history, kept in brief.
 ghost use Rattle.std.specs.Prelude.{◌≡◌, ◌+◌, ◌-◌, ◌<◌, ◌≤◌, ◌^◌, [], ◌∷◌, ◌++◌, ◌↔◌, length, slice_get, map, max, All, Some, IsTrue, IfOk, OnOk, OnErr};
 ghost use Rattle.dim_rag.specs.Journal.{IsWithin, entries_of};
+ghost use Rattle.dim_rag.specs.Shown.{shown};
 ghost use Rattle.dim_rag.specs.Yielded.{yielded};
 
 pub mod brief;
@@ -8,7 +9,8 @@ mod comparing;
 
 use crate::births::Births;
 use crate::entry::{Entry, MissWhy};
-use brief::{Brief, brief_of, entry_of, yielded};
+use crate::entry_ref::EntryRef;
+use brief::{Brief, brief_of, entry_of, look, yielded};
 use comparing::stands_for;
 use dim_base::{OutOfMemory, Tid};
 use dim_stack::Frame;
@@ -96,6 +98,14 @@ impl Journal {
         ensures { slice_get self.now.entries place ≡ Some result }
     {
         entry_of(&self.frames, &self.births, &self.briefs[place as usize])
+    }
+
+    /// The entry at a place below the length, by reference. It makes no entry.
+    pub fn look(&self, place: u32) -> EntryRef<'_>
+        requires { place < length self.now.entries }
+        ensures { slice_get self.now.entries place ≡ Some (shown result) }
+    {
+        look(&self.frames, &self.births, &self.briefs[place as usize])
     }
 
     /// The number of the signature that the entry at a place names, where it is a Yield. The place is below the length.

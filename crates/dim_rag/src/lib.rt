@@ -4,6 +4,7 @@
 mod births;
 mod command;
 mod entry;
+mod entry_ref;
 mod graph;
 mod journal;
 pub mod laws;
@@ -14,6 +15,7 @@ mod tests;
 pub use births::Births;
 pub use command::{Command, Refusal, Reply};
 pub use entry::{Edge, Entry, MissWhy, Mode, Named, Why, same_entry};
+pub use entry_ref::EntryRef;
 pub use graph::{Graph, Trail, is_member, without};
 pub use journal::Journal;
 pub use tables::Tables;

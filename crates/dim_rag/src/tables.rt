@@ -14,10 +14,12 @@ ghost use Rattle.dim_rag.specs.Waits.{waits};
 ghost use Rattle.dim_rag.specs.Certificate.{held_at, cycle_fault};
 ghost use Rattle.dim_rag.specs.Stuck.{IsStuck, IsFirstFree, stale, choice};
 ghost use Rattle.dim_rag.specs.Starvation.{starvation_fault, starved};
+ghost use Rattle.dim_rag.specs.Shown.{shown};
 ghost use Rattle.dim_rag.specs.Yielded.{yielded};
 
 use crate::births::Births;
 use crate::entry::{Edge, Entry, Mode};
+use crate::entry_ref::EntryRef;
 use crate::graph::Graph;
 use crate::journal::Journal;
 use dim_base::{Lid, OutOfMemory, Tid};
@@ -106,6 +108,14 @@ impl Tables {
         ensures { slice_get self.now.entries place ≡ Some result }
     {
         self.journal.entry(place)
+    }
+
+    /// The entry at a place below the length, by reference. It makes no entry, and takes no memory.
+    pub fn look(&self, place: u32) -> EntryRef<'_>
+        requires { place < length self.now.entries }
+        ensures { slice_get self.now.entries place ≡ Some (shown result) }
+    {
+        self.journal.look(place)
     }
 
     /// The number of the signature that the entry at a place names, where it is a Yield. The place is below the length.

@@ -1,6 +1,7 @@
 //! Writing the text of a trace.
 ghost use Rattle.std.specs.Prelude.{◌≡◌, ◌++◌, All, IfOk, OnOk};
 ghost use Rattle.std.specs.String.{string_bytes};
+ghost use Rattle.dim_rag.specs.Shown.{shown};
 ghost use Rattle.dim_trace.specs.Grammar.{HasSet};
 ghost use Rattle.dim_trace.specs.Text.{head_lines, text_of, line_of, words_of_entry, trace_text};
 
@@ -8,7 +9,7 @@ use crate::trace::Trace;
 use crate::words::put_entry;
 use dim_asm::Program;
 use dim_base::{Bytes, OutOfMemory};
-use dim_rag::{Entry, Tables};
+use dim_rag::{EntryRef, Tables};
 use dim_stack::Names;
 use std::alloc::{AllocError, Global};
 use std::fmt::Write;
@@ -21,10 +22,10 @@ fn head(alloc: Global, fuel: u32, depth: u8) -> Result<String, AllocError>
 }
 
 /// The set of a Break is a number of 32 bits.
-fn set_law(entry: &Entry)
-    ensures { HasSet entry.now }
+fn set_law(entry: &EntryRef<'_>)
+    ensures { HasSet (shown entry.now) }
 {
-    if let Entry::Break { set, .. } = entry {
+    if let EntryRef::Break { set, .. } = entry {
         let _set = *set;
     }
 }
@@ -34,11 +35,11 @@ fn put_line(
     text: &mut String,
     program: &Program,
     names: &Names,
-    entry: &Entry,
+    entry: &EntryRef<'_>,
 ) -> Result<(), AllocError>
     ensures line { OnOk result (string_bytes text.new
-        ≡ string_bytes text.old ++ line_of (words_of_entry program.now names.now entry.now)) }
-    ensures set { HasSet entry.now }
+        ≡ string_bytes text.old ++ line_of (words_of_entry program.now names.now (shown entry.now))) }
+    ensures set { HasSet (shown entry.now) }
 {
     set_law(entry);
     put_entry(text, program, names, entry)?;
@@ -58,7 +59,7 @@ fn text_of_trace(
 {
     let mut text = head(alloc, trace.fuel, trace.depth)?;
     for entry in &trace.entries {
-        put_line(&mut text, program, names, entry)?;
+        put_line(&mut text, program, names, &EntryRef::of(entry))?;
     }
     let count = trace.entries.len();
     writeln!(text, "end {count}")?;
@@ -97,7 +98,7 @@ fn text_of_tables(
     let mut text = head(alloc, fuel, depth)?;
     let count = tables.len();
     for place in 0..count {
-        put_line(&mut text, program, names, &tables.entry(place))?;
+        put_line(&mut text, program, names, &tables.look(place))?;
     }
     writeln!(text, "end {count}")?;
     Ok(text)

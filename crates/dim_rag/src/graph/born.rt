@@ -2,7 +2,7 @@
 ghost use Rattle.std.specs.Prelude.{◌≡◌, ℕ, ◌<◌, Some, IfSome};
 ghost use Rattle.dim_rag.specs.declared.entry.Edge.{Edge};
 ghost use Rattle.dim_rag.specs.History.{past, allow, hold};
-ghost use Rattle.dim_rag.specs.Born.{IsEdge, edge_born, with_birth};
+ghost use Rattle.dim_rag.specs.Born.{IsEdge, edge_born};
 
 use crate::entry::Edge;
 use crate::graph::Graph;
@@ -74,16 +74,6 @@ impl Graph {
         ensures each { (t : ℕ) (e : Edge) → hold t l.0 (past self.now.entries) ≡ Some e
             → e.birth ≡ birth → result ≡ Some e }
     {
-        if_born(birth, &self.holders[l.0 as usize])
-    }
-}
-
-/// An edge, if it has this birth.
-fn if_born(birth: u32, edge: &Option<Edge>) -> Option<Edge>
-    ensures { result ≡ with_birth birth edge.now }
-{
-    match edge {
-        Some(e) if e.birth == birth => Some(*e),
-        _ => None,
+        self.holders[l.0 as usize].born(birth)
     }
 }

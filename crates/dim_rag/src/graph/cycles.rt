@@ -1,5 +1,6 @@
 //! Cycles, and the places that are the births of one.
 ghost use Rattle.std.specs.Prelude.{◌≡◌, ◌+◌, ◌<◌, Some, None, IfSome, MatchResult, length, drop};
+ghost use Rattle.dim_rag.specs.Tables.{held_by};
 ghost use Rattle.dim_rag.specs.History.{past};
 ghost use Rattle.dim_rag.specs.Waits.{waits};
 ghost use Rattle.dim_rag.specs.Certificate.{held_at, next_or, cycle_fault};
@@ -7,7 +8,6 @@ ghost use Rattle.dim_rag.specs.Certificate.{held_at, next_or, cycle_fault};
 use crate::births::Births;
 use crate::entry::{Edge, Mode};
 use crate::graph::Graph;
-use crate::graph::row::held_by;
 use crate::graph::trail::Trail;
 use dim_base::Tid;
 
@@ -59,6 +59,16 @@ impl Graph {
             Some(e) => held_by(e.t, self.holder(e.l)),
             None => None,
         }
+    }
+}
+
+/// A hold edge, if it is one of this thread.
+fn held_by(t: Tid, holder: Option<Edge>) -> Option<Edge>
+    ensures { result ≡ held_by t.0 holder }
+{
+    match holder {
+        Some(e) if e.t.0 == t.0 => Some(e),
+        _ => None,
     }
 }
 

@@ -7,7 +7,6 @@ ghost use Rattle.dim_rag.specs.Fits.{FitsAfter, IsInRange, IsYielding, IsAllowed
 
 use crate::entry::{Entry, Mode};
 use crate::graph::Graph;
-use crate::graph::row::may_take;
 use dim_base::{Lid, Tid};
 use dim_stack::Stack;
 
@@ -86,7 +85,7 @@ impl Graph {
         requires { l.0 < self.now.locks }
         ensures { IsTrue result ↔ MayTake t.0 l.0 (past self.now.entries) }
     {
-        may_take(t, &self.holders[l.0 as usize], self.counts[l.0 as usize])
+        self.holders[l.0 as usize].may_be_taken(t, self.counts[l.0 as usize])
     }
 
     /// Whether a thread runs, or yields on this lock with this stack.

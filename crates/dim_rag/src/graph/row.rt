@@ -1,14 +1,14 @@
 //! What is kept of a thread and of a lock, and what an entry changes of it.
-ghost use Rattle.std.specs.Prelude.{◌≡◌, ◌≤◌, vec_len, option_map};
-ghost use Rattle.dim_rag.specs.declared.entry.Edge.{Edge};
+ghost use Rattle.std.specs.Prelude.{◌≡◌, vec_len};
 ghost use Rattle.dim_rag.specs.Fits.{IsInRange};
-ghost use Rattle.dim_rag.specs.Tables.{thread_of, held_by};
+ghost use Rattle.dim_rag.specs.Tables.{thread_of};
 ghost use Rattle.dim_rag.specs.Born.{with_birth};
 ghost use Rattle.dim_rag.specs.Rows.{idle_row, lock_of, edge_in, broken, row_after, holder_after, rows_after, holders_after, row_may_ask};
-ghost use Rattle.dim_rag.specs.Rows.{HasRoom, count_before, count_after, counts_after, is_quiet, may_take_by};
+ghost use Rattle.dim_rag.specs.Rows.{HasRoom, count_before, count_after, counts_after, is_quiet};
 
 use crate::births::Births;
 use crate::entry::{Edge, Entry, Mode};
+use crate::graph::holder::Holder;
 use dim_base::{Lid, Tid};
 use dim_stack::{Frame, Stack};
 
@@ -99,19 +99,24 @@ impl Row {
         }
     }
 
-    /// The holder of an entry's lock after it, where this is the row of its thread before it.
-    fn holder_after(&self, e: &Entry, place: u32) -> Option<Edge>
-        ensures { result ≡ holder_after self.now e.now place }
+    /// Writes the holder of an entry's lock after it, where this is the row of its thread before it.
+    fn hold(&self, e: &Entry, place: u32, holder: &mut Holder)
+        ensures { holder.new ≡ holder_after self.now e.now place }
     {
         match e {
-            Entry::Got { t, .. } => self.allow_edge(*t),
-            Entry::Took { t, l, stack } => Some(Edge {
-                t: *t,
-                l: *l,
-                stack: *stack,
-                birth: place,
-            }),
-            _ => None,
+            Entry::Got { t, .. } => self.hold_allowed(*t, holder),
+            Entry::Took { t, l, stack } => holder.set(*t, *l, stack, place),
+            _ => holder.clear(),
+        }
+    }
+
+    /// Writes the allow edge of a thread with this row as the holder of a lock.
+    fn hold_allowed(&self, t: Tid, holder: &mut Holder)
+        ensures { holder.new ≡ edge_in t self.now.mode self.now.stack }
+    {
+        match self.mode {
+            Mode::Allowed { l, birth } => holder.set(t, l, &self.stack, birth),
+            _ => holder.clear(),
         }
     }
 }
@@ -126,53 +131,10 @@ fn broken(mode: Mode, place: u32) -> Mode
     }
 }
 
-/// The holder of a lock, if it is this thread.
-pub fn held_by(t: Tid, holder: Option<Edge>) -> Option<Edge>
-    ensures { result ≡ held_by t.0 holder }
-{
-    match holder {
-        Some(e) if e.t.0 == t.0 => Some(e),
-        _ => None,
-    }
-}
-
-/// How often a thread may hold a lock.
-const MOST_HOLDS: u8 = 255;
-
-/// Whether a thread may take a lock at once which has this holder and is held so often.
-pub fn may_take(t: Tid, holder: &Option<Edge>, count: u8) -> bool
-    ensures { result ≡ may_take_by t.0 holder.now count }
-{
-    match holder {
-        None => true,
-        Some(e) => e.t.0 == t.0 && count < MOST_HOLDS,
-    }
-}
-
-/// The thread of an edge, if there is one.
-pub fn owner_of(edge: &Option<Edge>) -> Option<Tid>
-    ensures { result ≡ option_map (λ (e : Edge). e.t) edge.now }
-{
-    match edge {
-        Some(e) => Some(e.t),
-        None => None,
-    }
-}
-
-/// The birth of a lock's hold edge, if it is one of this thread.
-pub fn birth_held_by(t: Tid, holder: &Option<Edge>) -> Option<u32>
-    ensures { result ≡ option_map (λ (e : Edge). e.birth) (held_by t.0 holder.now) }
-{
-    match holder {
-        Some(e) if e.t.0 == t.0 => Some(e.birth),
-        _ => None,
-    }
-}
-
 /// Writes into the rows, the holders and the counts what an entry changes.
 pub fn replay(
     rows: &mut Vec<Row>,
-    holders: &mut Vec<Option<Edge>>,
+    holders: &mut Vec<Holder>,
     counts: &mut Vec<u8>,
     e: &Entry,
     place: u32,
@@ -189,7 +151,7 @@ pub fn replay(
         if let Some(l) = lock_of(e) {
             let count = counts[l.0 as usize];
             if !is_quiet(e, count) {
-                holders[l.0 as usize] = rows[t.0 as usize].holder_after(e, place);
+                rows[t.0 as usize].hold(e, place, &mut holders[l.0 as usize]);
             }
             counts[l.0 as usize] = count_after(e, count);
         }

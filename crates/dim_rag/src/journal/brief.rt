@@ -2,11 +2,13 @@
 ghost use Rattle.std.specs.Prelude.{◌≡◌, ℕ, List, ◌∷◌, [], ◌+◌, ◌<◌, ◌≤◌, ◌^◌, ◌++◌, length, vec_len, vec_capacity};
 ghost use Rattle.dim_stack.specs.declared.Frame.{Frame};
 ghost use Rattle.dim_rag.specs.declared.entry.MissWhy.TheVariants.{Avoid};
+ghost use Rattle.dim_rag.specs.Shown.{shown};
 ghost use Rattle.dim_rag.specs.Yielded.{yielded};
 ghost use Rattle.dim_rag.specs.Journal.{IsIn, IsWithin, frames_in, births_at, stack_of, births_of, births_of_miss, brief_of, brief_of_miss, entry_of};
 
 use crate::births::Births;
 use crate::entry::{Entry, MissWhy, Named, Why};
+use crate::entry_ref::EntryRef;
 use dim_base::{Lid, Tid};
 use dim_stack::{Frame, Stack};
 use std::mem::size_of;
@@ -256,6 +258,78 @@ pub fn entry_of(frames: &[Frame], births: &[Births], brief: &Brief) -> Entry
         Brief::Broken { set, t } => Entry::Break { set: *set, t: *t },
         Brief::Learnt { births: cycle } => Entry::Learn {
             births: births_at(births, *cycle),
+        },
+    }
+}
+
+/// The frames in a span.
+fn frames_in<'a>(frames: &'a [Frame], span: &Span) -> &'a [Frame]
+    requires { IsIn (length frames.now) span.now }
+    ensures { result.now ≡ frames_in frames.now span.now }
+{
+    let end = span.start + span.len as usize;
+    &frames[span.start..end]
+}
+
+/// The entry that a brief one stands for, by reference.
+pub fn look<'a>(frames: &'a [Frame], births: &'a [Births], brief: &Brief) -> EntryRef<'a>
+    requires { IsWithin (length frames.now) (length births.now) brief.now }
+    ensures { shown result ≡ entry_of frames.now births.now brief.now }
+{
+    match brief {
+        Brief::Went { t, l, stack } => EntryRef::Go {
+            t: *t,
+            l: *l,
+            stack: frames_in(frames, stack),
+        },
+        Brief::Yielded {
+            t,
+            l,
+            stack,
+            sig,
+            births: causes,
+        } => EntryRef::Yield {
+            t: *t,
+            l: *l,
+            stack: frames_in(frames, stack),
+            sig: *sig,
+            births: &births[*causes as usize],
+        },
+        Brief::Obtained { t, l } => EntryRef::Got { t: *t, l: *l },
+        Brief::Freed { t, l } => EntryRef::Free { t: *t, l: *l },
+        Brief::Took { t, l, stack } => EntryRef::Took {
+            t: *t,
+            l: *l,
+            stack: frames_in(frames, stack),
+        },
+        Brief::MissedBusy {
+            t,
+            l,
+            stack,
+            holder,
+        } => EntryRef::MissBusy {
+            t: *t,
+            l: *l,
+            stack: frames_in(frames, stack),
+            holder: *holder,
+        },
+        Brief::MissedAvoid {
+            t,
+            l,
+            stack,
+            sig,
+            births: causes,
+        } => EntryRef::MissAvoid {
+            t: *t,
+            l: *l,
+            stack: frames_in(frames, stack),
+            sig: *sig,
+            births: &births[*causes as usize],
+        },
+        Brief::Ended { t, why } => EntryRef::End { t: *t, why: *why },
+        Brief::Broken { set, t } => EntryRef::Break { set: *set, t: *t },
+        Brief::Learnt { births: cycle } => EntryRef::Learn {
+            births: &births[*cycle as usize],
         },
     }
 }

@@ -18,4 +18,4 @@ returns c =
     subst (λ (o : Option Edge). IsCount c.args.l.0 o c.index-2.result.now h) (sym owner)
     (subst (λ n. IsCount c.args.l.0 (get_or c.self.inside.holders.items c.args.l.0 None) n h) (sym times) (c.self.invariant.each_count c.args.l.0 below)) in
     let is = take_is c.args.t.0 c.args.l.0 c.index.result.now c.index-2.result.now h holds counts in
-    rw (← c.self.view_is, c.may_take.ensures) is
+    rw (← c.self.view_is, c.may_be_taken.ensures) is

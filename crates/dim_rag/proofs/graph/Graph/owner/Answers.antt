@@ -11,4 +11,4 @@ returns c =
     let is_holder = holder_read _ c.args.l.0 c.index.result.now h c.index.ensures (c.self.invariant.each_holder c.args.l.0 c.index.result.now (rw (← c.self.view_is) at c.requires)) in
     let in_range = subst (λ (o : Option Edge). IfSome o (λ e. e.t.0 < c.self.inside.threads)) (sym c.index.ensures)
     (c.self.invariant.holders_in c.args.l.0 c.index.result.now (rw c.self.invariant.holder_count (rw (← c.self.view_is) at c.requires))) in
-    rw (← c.self.view_is) (c.owner_of.ensures ∙ ap (option_map (λ (e : Edge). e.t)) (sym (holder_is c.self.inside.threads c.args.l.0 c.index.result.now h is_holder in_range)))
+    rw (← c.self.view_is) (c.owner.ensures ∙ ap (option_map (λ (e : Edge). e.t)) (sym (holder_is c.self.inside.threads c.args.l.0 c.index.result.now h is_holder in_range)))

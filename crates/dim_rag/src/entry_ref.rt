@@ -1,0 +1,126 @@
+//! Entries by reference.
+ghost use Rattle.std.specs.Prelude.{◌≡◌};
+ghost use Rattle.dim_rag.specs.declared.entry.Entry.TheVariants.{Miss};
+ghost use Rattle.dim_rag.specs.Shown.{shown};
+
+use crate::births::Births;
+use crate::entry::{Entry, MissWhy, Why};
+use dim_base::{Lid, Tid};
+use dim_stack::{Frame, Stack};
+
+/// An entry whose frames and births stay where they are kept, so that it is small. A contract says which entry it shows (`shown`).
+#[derive(Clone, Copy)]
+pub enum EntryRef<'a> {
+    Go {
+        t: Tid,
+        l: Lid,
+        stack: &'a [Frame],
+    },
+    Yield {
+        t: Tid,
+        l: Lid,
+        stack: &'a [Frame],
+        sig: u32,
+        births: &'a Births,
+    },
+    Got {
+        t: Tid,
+        l: Lid,
+    },
+    Free {
+        t: Tid,
+        l: Lid,
+    },
+    Took {
+        t: Tid,
+        l: Lid,
+        stack: &'a [Frame],
+    },
+    /// A Miss at a lock that is held.
+    MissBusy {
+        t: Tid,
+        l: Lid,
+        stack: &'a [Frame],
+        holder: Tid,
+    },
+    /// A Miss that would have completed a cover.
+    MissAvoid {
+        t: Tid,
+        l: Lid,
+        stack: &'a [Frame],
+        sig: u32,
+        births: &'a Births,
+    },
+    End {
+        t: Tid,
+        why: Why,
+    },
+    Break {
+        set: u32,
+        t: Tid,
+    },
+    Learn {
+        births: &'a Births,
+    },
+}
+
+impl<'a> EntryRef<'a> {
+    /// An entry by reference.
+    pub fn of(e: &'a Entry) -> EntryRef<'a>
+        ensures { shown result ≡ e.now }
+    {
+        match e {
+            Entry::Go { t, l, stack } => EntryRef::Go {
+                t: *t,
+                l: *l,
+                stack: stack.as_slice(),
+            },
+            Entry::Yield {
+                t,
+                l,
+                stack,
+                sig,
+                births,
+            } => EntryRef::Yield {
+                t: *t,
+                l: *l,
+                stack: stack.as_slice(),
+                sig: *sig,
+                births,
+            },
+            Entry::Got { t, l } => EntryRef::Got { t: *t, l: *l },
+            Entry::Free { t, l } => EntryRef::Free { t: *t, l: *l },
+            Entry::Took { t, l, stack } => EntryRef::Took {
+                t: *t,
+                l: *l,
+                stack: stack.as_slice(),
+            },
+            Entry::Miss { t, l, stack, why } => EntryRef::of_miss(*t, *l, stack, why),
+            Entry::End { t, why } => EntryRef::End { t: *t, why: *why },
+            Entry::Break { set, t } => EntryRef::Break { set: *set, t: *t },
+            Entry::Learn { births } => EntryRef::Learn { births },
+        }
+    }
+
+    /// A Miss by reference.
+    fn of_miss(t: Tid, l: Lid, stack: &'a Stack, why: &'a MissWhy) -> EntryRef<'a>
+        ensures { shown result ≡ Miss t l stack.now why.now }
+    {
+        let stack = stack.as_slice();
+        match why {
+            MissWhy::Busy { holder } => EntryRef::MissBusy {
+                t,
+                l,
+                stack,
+                holder: *holder,
+            },
+            MissWhy::Avoid(named) => EntryRef::MissAvoid {
+                t,
+                l,
+                stack,
+                sig: named.sig,
+                births: &named.births,
+            },
+        }
+    }
+}
