@@ -137,7 +137,7 @@ impl Frames {
         let mut all = [Frame { func: 0, at: 0 }; 32];
         let len = self.len;
         for i in 0..len {
-            let frame = self.frames[len - 1 - i];
+            let frame = &self.frames[len - 1 - i];
             all[i] = Frame {
                 func: program.number(frame.func),
                 at: frame.at,
