@@ -78,6 +78,24 @@ cases_at b c = elim (cases_lt b c) [
   | inr le ↦ elim (cases_lt c b) [ inl lt ↦ inr (λ e. omega (arith, lt, e)) | inr ge ↦ inl (omega (arith, le, ge)) ]
 ]
 
+-- a stack agrees with no edge of another bucket
+other_front : (d : ℕ) (s : List Frame) (e : Edge) → 1 ≤ d → (front e.stack ≡ front s → ⊥) → agrees d s e ≡ false
+other_front d s e low n = elim (cases_Bool (agrees d s e)) [
+  | inl a ↦
+      let deep : d ≡ d - 1 + 1 = omega (arith, low) in
+      absurd (n (ap bucket (same_first (d - 1) e.stack s (ap (λ m. pointwise frame_eq (take m e.stack) (take m s)) (sym deep) ∙ a))))
+  | inr a ↦ a
+]
+
+-- where its bucket has no edge, with none of them, nor with one more that doesn't agree
+pub none_agree : (d : ℕ) (s : List Frame) (es : List Edge) (e : Edge) → 1 ≤ d → fronted (front s) es ≡ 0 → agrees d s e ≡ false → filter (agrees d s) (es ++ e ∷ []) ≡ []
+none_agree d s [] e low q far = ap (λ t. cond t (e ∷ []) []) far
+none_agree d s (x ∷ es) e low q far =
+    let first = fronted_first (front s) x es in
+    let apart : agrees d s x ≡ false = other_front d s x low (λ f. let one = own_there (front s) x f in omega (arith, q, first, one)) in
+    ap (λ t. cond t (x ∷ filter (agrees d s) (es ++ e ∷ [])) (filter (agrees d s) (es ++ e ∷ []))) apart
+    ∙ none_agree d s es e low (omega (arith, q, first)) far
+
 pub no_fronts : AreFronts (replicate 4096 0) []
 no_fronts = record { size = length-replicate {A = ℕ} 4096 0; counts = λ b low. get_or-replicate 4096 b 0 0 low }
 
