@@ -72,6 +72,15 @@ impl Stack {
         Stack { len, frames: all }
     }
 
+    /// Becomes another stack. Only the frames that one of the two has are written, since most stacks are short.
+    pub fn set(&mut self, other: &Stack)
+        ensures { self.new ≡ other.now }
+    {
+        let most = self.len.max(other.len);
+        self.frames[..most].copy_from_slice(&other.frames[..most]);
+        self.len = other.len;
+    }
+
     /// How many frames it has, from 1 to 32.
     pub fn len(&self) -> u32
         ensures len { result ≡ length self.now }

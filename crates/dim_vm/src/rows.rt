@@ -15,6 +15,9 @@ use dim_rag::Why;
 
 impl Context {
     /// Makes the next instruction if it is plain, and else shows what it is.
+    ///
+    /// It is inlined, since a loop of plain instructions would else enter and leave it at each.
+    #[inline(always)]
     pub fn step(&mut self, program: &Program, holds: &[u8]) -> Step
         requires said { self.old.said < 2 ^ 63 }
         requires holds { length holds.now ≡ 256 }
@@ -32,6 +35,9 @@ impl Context {
     }
 
     /// The row of the instruction that is there.
+    ///
+    /// It is inlined, as `step` is.
+    #[inline(always)]
     fn row_here(&mut self, program: &Program, holds: &[u8]) -> Result<Step, Trap>
         requires said { self.old.said < 2 ^ 63 }
         requires holds { length holds.now ≡ 256 }
@@ -48,6 +54,9 @@ impl Context {
     }
 
     /// The row of an instruction.
+    ///
+    /// It is inlined, as `step` is.
+    #[inline(always)]
     fn row(&mut self, program: &Program, holds: &[u8], op: Op) -> Result<Step, Trap>
         requires said { self.old.said < 2 ^ 63 }
         requires holds { length holds.now ≡ 256 }

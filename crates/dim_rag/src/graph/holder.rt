@@ -54,7 +54,7 @@ impl Holder {
         self.is_held = true;
         self.edge.t = t;
         self.edge.l = l;
-        self.edge.stack = *stack;
+        self.edge.stack.set(stack);
         self.edge.birth = birth;
     }
 

@@ -78,7 +78,7 @@ impl Row {
                     l: *l,
                     birth: place,
                 };
-                self.stack = *stack;
+                self.stack.set(stack);
             }
             Entry::Yield {
                 l,
@@ -87,7 +87,7 @@ impl Row {
                 ..
             } => {
                 self.mode = Mode::Yielding { l: *l, place };
-                self.stack = *stack;
+                self.stack.set(stack);
                 self.births = *births;
             }
             Entry::Got { .. } | Entry::Free { .. } | Entry::Took { .. } | Entry::Miss { .. } => {

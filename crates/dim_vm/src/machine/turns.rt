@@ -47,6 +47,9 @@ impl Machine {
     }
 
     /// Makes the next instruction for a unit if it is plain, and else shows what it is.
+    ///
+    /// It is inlined, since a loop of plain instructions would else enter and leave it at each.
+    #[inline(always)]
     pub(super) fn step(&mut self, program: &Program) -> Step
         requires { 1 ≤ self.old.units }
         ensures step { IsStep program.now self.old result self.new }
