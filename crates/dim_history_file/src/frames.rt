@@ -57,17 +57,13 @@ fn frame(names: &Names, recent: &mut Recent, word: &[u8]) -> Result<Frame, FileK
     Ok(Frame { func, at })
 }
 
-// The number of a name, which is noted where it was not guessed.
+// The number of a name.
 fn found(names: &Names, recent: &mut Recent, name: &[u8]) -> Option<u32>
     ensures number { result ≡ number_of names.now name.now }
     ensures name { IfSome result (λ _. IsName name.now) }
 {
     let _table = names.len();
-    let guess = recent.guess(name);
-    let number = names.find_with_guess(name, guess)?;
-    if number != guess {
-        recent.note(name, number);
-    }
+    let number = recent.find(names, name)?;
     Some(number)
 }
 

@@ -19,6 +19,7 @@ pub use fault::{FileFault, FileKind, ReadFault};
 pub use history::History;
 pub use laws::{first_fault_law, reading_law, spelling_law};
 pub use reading::read;
+pub use recent::Recent;
 pub use renaming::rename;
 pub use writing::{put_stack, write};
 

@@ -1,4 +1,8 @@
 //! Where names were found last.
+ghost use Rattle.std.specs.Prelude.{◌≡◌};
+ghost use Rattle.dim_stack.specs.Names.{number_of};
+
+use dim_stack::Names;
 
 /// For names that come again soon, the place where each stood when it was last found.
 ///
@@ -22,6 +26,18 @@ impl Recent {
     /// Notes where a name stands.
     pub fn note(&mut self, name: &[u8], place: u32) {
         self.places[usize::from(entry_of(name))] = place;
+    }
+
+    /// The number of a name in a table, and None where it is not there. It is noted where it was not guessed.
+    pub fn find(&mut self, names: &Names, name: &[u8]) -> Option<u32>
+        ensures { result ≡ number_of names.now name.now }
+    {
+        let guess = self.guess(name);
+        let number = names.find_with_guess(name, guess)?;
+        if number != guess {
+            self.note(name, number);
+        }
+        Some(number)
     }
 }
 

@@ -1,10 +1,11 @@
 //! Entries by reference.
 ghost use Rattle.std.specs.Prelude.{◌≡◌};
 ghost use Rattle.dim_rag.specs.declared.entry.Entry.TheVariants.{Miss};
-ghost use Rattle.dim_rag.specs.Shown.{shown};
+ghost use Rattle.dim_rag.specs.Shown.{HasStack, shown};
 
 use crate::births::Births;
 use crate::entry::{Entry, MissWhy, Why};
+use crate::journal::brief::avoided;
 use dim_base::{Lid, Tid};
 use dim_stack::{Frame, Stack};
 
@@ -121,6 +122,66 @@ impl<'a> EntryRef<'a> {
                 sig: named.sig,
                 births: &named.births,
             },
+        }
+    }
+
+    /// The entry that it shows.
+    pub fn entry(&self) -> Entry
+        requires { HasStack self.now }
+        ensures { result ≡ shown self.now }
+    {
+        match self {
+            EntryRef::Go { t, l, stack } => Entry::Go {
+                t: *t,
+                l: *l,
+                stack: Stack::new(stack),
+            },
+            EntryRef::Yield {
+                t,
+                l,
+                stack,
+                sig,
+                births,
+            } => Entry::Yield {
+                t: *t,
+                l: *l,
+                stack: Stack::new(stack),
+                sig: *sig,
+                births: **births,
+            },
+            EntryRef::Got { t, l } => Entry::Got { t: *t, l: *l },
+            EntryRef::Free { t, l } => Entry::Free { t: *t, l: *l },
+            EntryRef::Took { t, l, stack } => Entry::Took {
+                t: *t,
+                l: *l,
+                stack: Stack::new(stack),
+            },
+            EntryRef::MissBusy {
+                t,
+                l,
+                stack,
+                holder,
+            } => Entry::Miss {
+                t: *t,
+                l: *l,
+                stack: Stack::new(stack),
+                why: MissWhy::Busy { holder: *holder },
+            },
+            EntryRef::MissAvoid {
+                t,
+                l,
+                stack,
+                sig,
+                births,
+            } => Entry::Miss {
+                t: *t,
+                l: *l,
+                stack: Stack::new(stack),
+                why: avoided(*sig, **births),
+            },
+            EntryRef::End { t, why } => Entry::End { t: *t, why: *why },
+            EntryRef::Break { set, t } => Entry::Break { set: *set, t: *t },
+            EntryRef::Learn { births } => Entry::Learn { births: **births },
         }
     }
 }

@@ -1,7 +1,7 @@
 //! The entries of a history, kept in brief.
 ghost use Rattle.std.specs.Prelude.{◌≡◌, ◌+◌, ◌-◌, ◌<◌, ◌≤◌, ◌^◌, [], ◌∷◌, ◌++◌, ◌↔◌, length, slice_get, map, max, All, Some, IsTrue, IfOk, OnOk, OnErr};
 ghost use Rattle.dim_rag.specs.Journal.{IsWithin, entries_of};
-ghost use Rattle.dim_rag.specs.Shown.{shown};
+ghost use Rattle.dim_rag.specs.Shown.{HasStack, shown};
 ghost use Rattle.dim_rag.specs.Yielded.{yielded};
 
 pub mod brief;
@@ -103,7 +103,8 @@ impl Journal {
     /// The entry at a place below the length, by reference. It makes no entry.
     pub fn look(&self, place: u32) -> EntryRef<'_>
         requires { place < length self.now.entries }
-        ensures { slice_get self.now.entries place ≡ Some (shown result) }
+        ensures entry { slice_get self.now.entries place ≡ Some (shown result) }
+        ensures stack { HasStack result }
     {
         look(&self.frames, &self.births, &self.briefs[place as usize])
     }
@@ -117,16 +118,18 @@ impl Journal {
     }
 
     /// Whether this entry is at a place.
-    pub fn is_entry(&self, place: u32, e: &Entry) -> bool
-        ensures { IsTrue result ↔ (slice_get self.now.entries place ≡ Some e.now) }
+    pub fn is_entry(&self, place: u32, e: &EntryRef<'_>) -> bool
+        requires { HasStack e.now }
+        ensures { IsTrue result ↔ (slice_get self.now.entries place ≡ Some (shown e.now)) }
     {
         place < self.len() && self.is_at(place, e)
     }
 
     /// Whether this entry is at a place below the length.
-    fn is_at(&self, place: u32, e: &Entry) -> bool
-        requires { place < length self.now.entries }
-        ensures { IsTrue result ↔ (slice_get self.now.entries place ≡ Some e.now) }
+    fn is_at(&self, place: u32, e: &EntryRef<'_>) -> bool
+        requires place { place < length self.now.entries }
+        requires stack { HasStack e.now }
+        ensures { IsTrue result ↔ (slice_get self.now.entries place ≡ Some (shown e.now)) }
     {
         stands_for(&self.frames, &self.births, &self.briefs[place as usize], e)
     }

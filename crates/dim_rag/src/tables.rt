@@ -14,7 +14,7 @@ ghost use Rattle.dim_rag.specs.Waits.{waits};
 ghost use Rattle.dim_rag.specs.Certificate.{held_at, cycle_fault};
 ghost use Rattle.dim_rag.specs.Stuck.{IsStuck, IsFirstFree, stale, choice};
 ghost use Rattle.dim_rag.specs.Starvation.{starvation_fault, starved};
-ghost use Rattle.dim_rag.specs.Shown.{shown};
+ghost use Rattle.dim_rag.specs.Shown.{HasStack, shown};
 ghost use Rattle.dim_rag.specs.Yielded.{yielded};
 
 use crate::births::Births;
@@ -129,8 +129,9 @@ impl Tables {
     }
 
     /// Whether this entry is at a place. It compares them where they lie.
-    pub fn is_entry(&self, place: u32, e: &Entry) -> bool
-        ensures { IsTrue result ↔ (slice_get self.now.entries place ≡ Some e.now) }
+    pub fn is_entry(&self, place: u32, e: &EntryRef<'_>) -> bool
+        requires { HasStack e.now }
+        ensures { IsTrue result ↔ (slice_get self.now.entries place ≡ Some (shown e.now)) }
     {
         self.journal.is_entry(place, e)
     }

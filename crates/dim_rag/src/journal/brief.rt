@@ -2,7 +2,7 @@
 ghost use Rattle.std.specs.Prelude.{◌≡◌, ℕ, List, ◌∷◌, [], ◌+◌, ◌<◌, ◌≤◌, ◌^◌, ◌++◌, length, vec_len, vec_capacity};
 ghost use Rattle.dim_stack.specs.declared.Frame.{Frame};
 ghost use Rattle.dim_rag.specs.declared.entry.MissWhy.TheVariants.{Avoid};
-ghost use Rattle.dim_rag.specs.Shown.{shown};
+ghost use Rattle.dim_rag.specs.Shown.{HasStack, shown};
 ghost use Rattle.dim_rag.specs.Yielded.{yielded};
 ghost use Rattle.dim_rag.specs.Journal.{IsIn, IsWithin, frames_in, births_at, stack_of, births_of, births_of_miss, brief_of, brief_of_miss, entry_of};
 
@@ -265,7 +265,9 @@ pub fn entry_of(frames: &[Frame], births: &[Births], brief: &Brief) -> Entry
 /// The frames in a span.
 fn frames_in<'a>(frames: &'a [Frame], span: &Span) -> &'a [Frame]
     requires { IsIn (length frames.now) span.now }
-    ensures { result.now ≡ frames_in frames.now span.now }
+    ensures value { result.now ≡ frames_in frames.now span.now }
+    ensures some { 1 ≤ length result.now }
+    ensures few { length result.now ≤ 32 }
 {
     let end = span.start + span.len as usize;
     &frames[span.start..end]
@@ -274,7 +276,8 @@ fn frames_in<'a>(frames: &'a [Frame], span: &Span) -> &'a [Frame]
 /// The entry that a brief one stands for, by reference.
 pub fn look<'a>(frames: &'a [Frame], births: &'a [Births], brief: &Brief) -> EntryRef<'a>
     requires { IsWithin (length frames.now) (length births.now) brief.now }
-    ensures { shown result ≡ entry_of frames.now births.now brief.now }
+    ensures entry { shown result ≡ entry_of frames.now births.now brief.now }
+    ensures stack { HasStack result }
 {
     match brief {
         Brief::Went { t, l, stack } => EntryRef::Go {
@@ -345,7 +348,7 @@ pub fn yielded(brief: &Brief) -> Option<u32>
 }
 
 /// Why a try took no lock that would have completed a cover.
-fn avoided(sig: u32, births: Births) -> MissWhy
+pub fn avoided(sig: u32, births: Births) -> MissWhy
     ensures { result ≡ Avoid record { sig = sig; births = births } }
 {
     MissWhy::Avoid(Named { sig, births })

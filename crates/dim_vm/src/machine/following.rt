@@ -1,6 +1,7 @@
 //! A machine that goes on by entries that were made before.
 ghost use Rattle.std.specs.Prelude.{◌≡◌, ◌≢◌, ◌<◌, ◌≤◌, ◌-◌, ◌↔◌, ◌⊎◌, IsTrue, Some, suc, pos, false, length};
 ghost use Rattle.dim_base.specs.declared.Lid.{Lid};
+ghost use Rattle.dim_rag.specs.Shown.{shown};
 ghost use Rattle.dim_rag.specs.Tables.{thread_of};
 ghost use Rattle.dim_vm.specs.Configuration.{is_ended, next_of, rested, moved, moved_by, holding, passed};
 ghost use Rattle.dim_vm.specs.Fitting.{FitsEntry, FitsNext, IsWanting, IsRetaking, IsFreeing, IsTrying};
@@ -15,19 +16,19 @@ use crate::state::State;
 use crate::step::Step;
 use dim_asm::Program;
 use dim_base::Lid;
-use dim_rag::{Entry, Why};
-use dim_stack::Stack;
+use dim_rag::{EntryRef, Why};
+use dim_stack::Frame;
 
 impl Machine {
     /// Makes the plain instructions that come next, and then goes on by an entry, if that tells what it does next. It answers whether it does.
     ///
     /// With a unit left at a LOCK, which is too few to ask, it ends as spent only where it may: a thread may that runs, or is woken.
     /// It takes no memory. One that an entry does not fit may have done a part, and is of no further use.
-    pub fn follow(&mut self, program: &Program, e: &Entry, may_end: bool) -> bool
+    pub fn follow(&mut self, program: &Program, e: &EntryRef<'_>, may_end: bool) -> bool
         ensures fits { IsTrue result
-            ↔ FitsEntry program.now (IsTrue may_end) (rested program.now self.old) e.now }
+            ↔ FitsEntry program.now (IsTrue may_end) (rested program.now self.old) (shown e.now) }
         ensures moved { IsTrue result
-            → self.new ≡ moved program.now (rested program.now self.old) e.now }
+            → self.new ≡ moved program.now (rested program.now self.old) (shown e.now) }
     {
         if let State::Running = self.state {
             self.rest(program);
@@ -49,9 +50,9 @@ impl Machine {
     }
 
     /// Goes on by an entry, if that tells what is next.
-    fn go_on(&mut self, program: &Program, e: &Entry, may_end: bool) -> bool
-        ensures fits { IsTrue result ↔ FitsEntry program.now (IsTrue may_end) self.old e.now }
-        ensures moved { IsTrue result → self.new ≡ moved program.now self.old e.now }
+    fn go_on(&mut self, program: &Program, e: &EntryRef<'_>, may_end: bool) -> bool
+        ensures fits { IsTrue result ↔ FitsEntry program.now (IsTrue may_end) self.old (shown e.now) }
+        ensures moved { IsTrue result → self.new ≡ moved program.now self.old (shown e.now) }
     {
         if !self.may_make(e) {
             return false;
@@ -67,9 +68,9 @@ impl Machine {
     }
 
     /// Whether it hasn't ended, and an entry is of its thread.
-    fn may_make(&self, e: &Entry) -> bool
+    fn may_make(&self, e: &EntryRef<'_>) -> bool
         ensures { IsTrue result
-            ↔ ((is_ended self.now.state ≡ false) × (thread_of e.now ≡ Some self.now.thread)) }
+            ↔ ((is_ended self.now.state ≡ false) × (thread_of (shown e.now) ≡ Some self.now.thread)) }
     {
         match self.state {
             State::Ended { .. } => false,
@@ -78,30 +79,31 @@ impl Machine {
     }
 
     /// Whether an entry is a word of its thread.
-    fn is_of(&self, e: &Entry) -> bool
-        ensures { IsTrue result ↔ (thread_of e.now ≡ Some self.now.thread) }
+    fn is_of(&self, e: &EntryRef<'_>) -> bool
+        ensures { IsTrue result ↔ (thread_of (shown e.now) ≡ Some self.now.thread) }
     {
         match e {
-            Entry::Go { t, .. }
-            | Entry::Yield { t, .. }
-            | Entry::Got { t, .. }
-            | Entry::Free { t, .. }
-            | Entry::Took { t, .. }
-            | Entry::Miss { t, .. }
-            | Entry::End { t, .. }
-            | Entry::Break { t, .. } => *t == self.thread,
-            Entry::Learn { .. } => false,
+            EntryRef::Go { t, .. }
+            | EntryRef::Yield { t, .. }
+            | EntryRef::Got { t, .. }
+            | EntryRef::Free { t, .. }
+            | EntryRef::Took { t, .. }
+            | EntryRef::MissBusy { t, .. }
+            | EntryRef::MissAvoid { t, .. }
+            | EntryRef::End { t, .. }
+            | EntryRef::Break { t, .. } => *t == self.thread,
+            EntryRef::Learn { .. } => false,
         }
     }
 
     /// Ends as spent, if an entry says so.
-    fn spend(&mut self, e: &Entry) -> bool
-        ensures fits { IsTrue result ↔ IsSpending e.now }
+    fn spend(&mut self, e: &EntryRef<'_>) -> bool
+        ensures fits { IsTrue result ↔ IsSpending (shown e.now) }
         ensures moved { IsTrue result
             → self.new ≡ record self.old { state = State.Ended Why.Spent } }
     {
         match e {
-            Entry::End {
+            EntryRef::End {
                 why: Why::Spent,
                 ..
             } => {
@@ -113,16 +115,16 @@ impl Machine {
     }
 
     /// Goes on by an entry, if that tells of a step, which is next.
-    fn go_on_at(&mut self, program: &Program, step: &Step, e: &Entry, may_end: bool) -> bool
+    fn go_on_at(&mut self, program: &Program, step: &Step, e: &EntryRef<'_>, may_end: bool) -> bool
         requires units { 1 ≤ self.old.units }
         requires found { IsFound program.now self.old.holds self.old.context
             (told_by self.old.context step.now self.old.context) }
         ensures fits { IsTrue result
             ↔ FitsNext self.old.units (stack_of program.now self.old.context.frames)
-            (IsTrue may_end) e.now (told_by self.old.context step.now self.old.context) }
+            (IsTrue may_end) (shown e.now) (told_by self.old.context step.now self.old.context) }
         ensures moved { IsTrue result
             → self.new
-            ≡ moved_by self.old e.now (told_by self.old.context step.now self.old.context) }
+            ≡ moved_by self.old (shown e.now) (told_by self.old.context step.now self.old.context) }
     {
         if !self.fits(program, step, e, may_end) {
             return false;
@@ -132,34 +134,34 @@ impl Machine {
     }
 
     /// Whether an entry tells of a step, which is next.
-    fn fits(&self, program: &Program, step: &Step, e: &Entry, may_end: bool) -> bool
+    fn fits(&self, program: &Program, step: &Step, e: &EntryRef<'_>, may_end: bool) -> bool
         ensures { IsTrue result
             ↔ FitsNext self.now.units (stack_of program.now self.now.context.frames)
-            (IsTrue may_end) e.now (told_by self.now.context step.now self.now.context) }
+            (IsTrue may_end) (shown e.now) (told_by self.now.context step.now self.now.context) }
     {
         match e {
-            Entry::Go { l, stack, .. } | Entry::Yield { l, stack, .. } => {
+            EntryRef::Go { l, stack, .. } | EntryRef::Yield { l, stack, .. } => {
                 self.units >= 2 && self.has_stack(program, stack) && self.wants(step, *l)
             }
-            Entry::Got { l, .. } => self.units >= 1 && self.wants(step, *l),
-            Entry::Free { l, .. } => self.units >= 1 && self.frees(step, *l),
-            Entry::Took { l, stack, .. } => {
+            EntryRef::Got { l, .. } => self.units >= 1 && self.wants(step, *l),
+            EntryRef::Free { l, .. } => self.units >= 1 && self.frees(step, *l),
+            EntryRef::Took { l, stack, .. } => {
                 self.units >= 1 && self.has_stack(program, stack) && self.takes(step, *l)
             }
-            Entry::Miss { l, stack, .. } => {
+            EntryRef::MissBusy { l, stack, .. } | EntryRef::MissAvoid { l, stack, .. } => {
                 self.units >= 1 && self.has_stack(program, stack) && self.tries(step, *l)
             }
-            Entry::End { why, .. } => self.may_end(step, *why, may_end),
-            Entry::Break { .. } | Entry::Learn { .. } => false,
+            EntryRef::End { why, .. } => self.may_end(step, *why, may_end),
+            EntryRef::Break { .. } | EntryRef::Learn { .. } => false,
         }
     }
 
     /// Whether it has these calls.
-    fn has_stack(&self, program: &Program, stack: &Stack) -> bool
+    fn has_stack(&self, program: &Program, stack: &[Frame]) -> bool
         ensures { IsTrue result ↔ (stack.now ≡ stack_of program.now self.now.context.frames) }
     {
         let own = self.context.frames.stack(program);
-        *stack == own
+        stack == own.as_slice()
     }
 
     /// Whether a step is to take a lock.
@@ -269,22 +271,22 @@ impl Machine {
     }
 
     /// Goes on by an entry that tells of a step, which is next.
-    fn go_by(&mut self, step: &Step, e: &Entry)
+    fn go_by(&mut self, step: &Step, e: &EntryRef<'_>)
         requires units { 1 ≤ self.old.units }
-        requires tells { Tells e.now (told_by self.old.context step.now self.old.context) }
+        requires tells { Tells (shown e.now) (told_by self.old.context step.now self.old.context) }
         requires safe { IsSafe self.old.holds self.old.context step.now }
         ensures { self.new
-            ≡ moved_by self.old e.now (told_by self.old.context step.now self.old.context) }
+            ≡ moved_by self.old (shown e.now) (told_by self.old.context step.now self.old.context) }
     {
         match e {
-            Entry::Go { l, .. } => self.stand(State::Waits { l: *l }),
-            Entry::Yield { l, .. } => self.stand(State::Yields { l: *l }),
-            Entry::Got { l, .. } => self.pass(*l, 1, drops(step)),
-            Entry::Free { l, .. } => self.give_back(*l, drops(step)),
-            Entry::Took { l, .. } => self.take_by(step, *l),
-            Entry::Miss { .. } => self.miss(),
-            Entry::End { why, .. } => self.state = State::Ended { why: *why },
-            Entry::Break { .. } | Entry::Learn { .. } => {}
+            EntryRef::Go { l, .. } => self.stand(State::Waits { l: *l }),
+            EntryRef::Yield { l, .. } => self.stand(State::Yields { l: *l }),
+            EntryRef::Got { l, .. } => self.pass(*l, 1, drops(step)),
+            EntryRef::Free { l, .. } => self.give_back(*l, drops(step)),
+            EntryRef::Took { l, .. } => self.take_by(step, *l),
+            EntryRef::MissBusy { .. } | EntryRef::MissAvoid { .. } => self.miss(),
+            EntryRef::End { why, .. } => self.state = State::Ended { why: *why },
+            EntryRef::Break { .. } | EntryRef::Learn { .. } => {}
         }
     }
 

@@ -3,7 +3,7 @@ use super::program_of;
 use crate::machine::Machine;
 use dim_asm::Program;
 use dim_base::{Lid, Tid};
-use dim_rag::{Entry, Why};
+use dim_rag::{Entry, EntryRef, Why};
 use dim_stack::{Frame, Stack};
 use std::test::Fail;
 
@@ -18,7 +18,7 @@ fn follows(program: &Program, fuel: u32, may_end: bool, entries: &[Entry]) -> bo
     let _some = program.threads();
     let mut machine = Machine::new(program, T, fuel);
     for e in entries {
-        if !machine.follow(program, e, may_end) {
+        if !machine.follow(program, &EntryRef::of(e), may_end) {
             return false;
         }
     }

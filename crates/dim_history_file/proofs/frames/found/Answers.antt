@@ -3,12 +3,7 @@ use Rattle.dim_stack.specs.Names.{number_of}
 use Rattle.dim_history_file.proofs.Using.{number_named}
 use Rattle.dim_history_file.proofs.frames.found.Goals as goal
 
-pub returns-then-number-guess-clause-name : goal.returns-then-number-guess-clause-name
-returns-then-number-guess-clause-name c =
-    let at : number_of c.args.names.now c.args.name.now ≡ Some c.in_ok-number.number = search rules in
-    number_named c.args.names.now c.len-table.ensures.table.named c.args.name.now c.in_ok-number.number at
-
-pub returns-else-number-guess-clause-name : goal.returns-else-number-guess-clause-name
-returns-else-number-guess-clause-name c =
+pub returns-clause-name : goal.returns-clause-name
+returns-clause-name c =
     let at : number_of c.args.names.now c.args.name.now ≡ Some c.in_ok-number.number = search rules in
     number_named c.args.names.now c.len-table.ensures.table.named c.args.name.now c.in_ok-number.number at

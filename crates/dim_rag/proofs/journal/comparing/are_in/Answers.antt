@@ -14,6 +14,5 @@ returns c =
     let long : start + len - start ≡ len = omega arith in
     let same : c.eq.result ≡ pointwise frame_eq (frames_in fs c.args.span.now) c.args.stack.now =
     c.eq.ensures
-    ∙ ap (λ (n : ℕ). pointwise frame_eq (take n (drop start fs)) c.as_slice.result.now) long
-    ∙ ap (pointwise frame_eq (frames_in fs c.args.span.now)) c.as_slice.ensures in
+    ∙ ap (λ (n : ℕ). pointwise frame_eq (take n (drop start fs)) c.args.stack.now) long in
     rw same (stack (frames_in fs c.args.span.now) c.args.stack.now)
