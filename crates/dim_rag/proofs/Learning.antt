@@ -15,8 +15,9 @@ use Rattle.dim_rag.specs.Born.{born, edge_of_wish_at, granted_by, all_edges, edg
 use Rattle.dim_rag.specs.Waits.{waits, waits_by}
 use Rattle.dim_rag.specs.Steps.{run_into}
 use Rattle.dim_rag.specs.Stuck.{is_member, is_owner_in, edges_in, is_held_by, is_held, first_free, stale, holds, holds_more, may_choose, choice}
+use Rattle.dim_rag.specs.FirstFailing.{first_failing}
 use Rattle.dim_rag.specs.Certificate.{passes_at}
-use Rattle.dim_rag.specs.Starvation.{step, is_on, has_new_lock, is_of_yielder, someone_yields, starves_at, first_failing, starvation_fault, if_starvation, starved_from, starved}
+use Rattle.dim_rag.specs.Starvation.{step, is_on, has_new_lock, is_of_yielder, someone_yields, starves_at, starvation_fault, if_starvation, starved_from, starved}
 
 module _ (b : List ℕ) (h : List Entry) where
   abbrev g : List Entry
@@ -135,20 +136,17 @@ module _ (b : List ℕ) (h : List Entry) where
 
   starves_same : (n m : ℕ) (ps : List ℕ) (k : ℕ) → starves_at n m g ps k ≡ starves_at n m h ps k
   starves_same n m ps k =
-      ap (λ f. passes_at f (step n m g) ps k (get_or ps k 0) && has_new_lock g (take k ps) (f (get_or ps k 0))) found_same
-      ∙ ap (λ s. passes_at (edge_born h) s ps k (get_or ps k 0) && has_new_lock g (take k ps) (edge_born h (get_or ps k 0))) (steps_same n m)
-      ∙ ap (λ x. passes_at (edge_born h) (step n m h) ps k (get_or ps k 0) && x) (lock_same (take k ps) (edge_born h (get_or ps k 0)))
+      ap (λ f. passes_at f (step n m g) ps k && has_new_lock g (take k ps) (f (get_or ps k 0))) found_same
+      ∙ ap (λ s. passes_at (edge_born h) s ps k && has_new_lock g (take k ps) (edge_born h (get_or ps k 0))) (steps_same n m)
+      ∙ ap (λ x. passes_at (edge_born h) (step n m h) ps k && x) (lock_same (take k ps) (edge_born h (get_or ps k 0)))
 
-  failing_same : (n m : ℕ) (ps : List ℕ) (k : ℕ) → first_failing n m g ps k ≡ first_failing n m h ps k
-  failing_same n m ps zero = refl
-  failing_same n m ps (suc k) =
-      ap (λ o. option_or o (if starves_at n m g ps k then None else Some k)) (failing_same n m ps k)
-      ∙ ap (λ x. option_or (first_failing n m h ps k) (if x then None else Some k)) (starves_same n m ps k)
+  failing_same : (n m : ℕ) (ps : List ℕ) (k : ℕ) → first_failing (starves_at n m g ps) k ≡ first_failing (starves_at n m h ps) k
+  failing_same n m ps k = ap (λ f. first_failing f k) (λ i j. starves_same n m ps j i)
 
   pub fault_same : (n m : ℕ) (ps : List ℕ) → starvation_fault n m g ps ≡ starvation_fault n m h ps
   fault_same n m ps =
       ap (λ o. if nat_lt (length ps) 2 then Some 0 else option_or o (if someone_yields g ps then None else Some 0)) (failing_same n m ps (length ps))
-      ∙ ap (λ x. if nat_lt (length ps) 2 then Some 0 else option_or (first_failing n m h ps (length ps)) (if x then None else Some 0)) (someone_same ps)
+      ∙ ap (λ x. if nat_lt (length ps) 2 then Some 0 else option_or (first_failing (starves_at n m h ps) (length ps)) (if x then None else Some 0)) (someone_same ps)
 
   given_same : (n m : ℕ) (ps : List ℕ) → if_starvation n m g ps ≡ if_starvation n m h ps
   given_same n m ps = ap (λ o. if is_none o then Some ps else None) (fault_same n m ps)

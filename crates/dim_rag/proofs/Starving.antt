@@ -3,9 +3,8 @@ use Rattle.std.proofs.Common.{◌≡◌, ◌≢◌, ℕ, zero, suc, ◌<◌, ◌
 use Rattle.std.specs.Prelude.{Option, Some, None, MatchOption, AllPairs, if◌then◌else◌, not, slice_get, is_none}
 use Rattle.std.specs.Option.{option_or, option_and_then}
 use Rattle.std.specs.List.{list_any}
-use Rattle.std.proofs.lemmas.Bool.{cases_Bool, cases_lt, ltb-false, le-ltb, eq-eqb, ne_eqb, and_parts, and_from, or_left, or_right, false≢true}
+use Rattle.std.proofs.lemmas.Bool.{cases_Bool, ltb-false, le-ltb, eq-eqb, ne_eqb, and_parts, and_from, or_left, or_right, false≢true}
 use Rattle.std.proofs.lemmas.List.{get_or-map, length-map}
-use Rattle.std.proofs.lemmas.Option.{get_or_from_slice_get, slice_get_within}
 use Rattle.dim_rag.specs.declared.entry.Edge.{Edge}
 use Rattle.dim_rag.specs.declared.entry.Entry.{Entry}
 use Rattle.dim_rag.specs.declared.entry.Mode.{Mode}
@@ -17,13 +16,15 @@ use Rattle.dim_rag.specs.Fits.{AreInRange}
 use Rattle.dim_rag.specs.Waits.{waits, waits_by}
 use Rattle.dim_rag.specs.Steps.{Step, first_or, Follow, HasOwner, IsCycle, births, run_into, RunsInto}
 use Rattle.dim_rag.specs.Stuck.{is_yielding, choice, may_choose, IsChoice}
-use Rattle.dim_rag.specs.Certificate.{fault, passes_at, IsFirstFault}
-use Rattle.dim_rag.specs.Starvation.{step, IsStarvation, is_on, has_new_lock, is_of_yielder, someone_yields, starves_at, first_failing, starvation_fault, if_starvation, starved_from, starved, WaitsFor, IsKeptBy, StepLaw, StarvationLaw, StarvedLaw, NoCycleLaw}
+use Rattle.dim_rag.specs.FirstFailing.{first_failing}
+use Rattle.dim_rag.specs.Certificate.{fault, passes_at}
+use Rattle.dim_rag.specs.Starvation.{step, IsStarvation, is_on, has_new_lock, is_of_yielder, someone_yields, starves_at, starvation_fault, if_starvation, starved_from, starved, WaitsFor, IsKeptBy, StepLaw, StarvationLaw, StarvedLaw, NoCycleLaw}
 use Rattle.dim_rag.proofs.Born.{edge_on, same_edge}
 use Rattle.dim_rag.proofs.EdgeBorn.{edge_found, found_edge}
 use Rattle.dim_rag.proofs.Certificates.{Finds, certificate, holder_hold}
 use Rattle.dim_rag.proofs.Choices.{choice_law}
-use Rattle.dim_rag.proofs.Faults.{first_fault}
+use Rattle.dim_rag.proofs.FirstFailing.{none_failing, failing_none}
+use Rattle.dim_rag.proofs.Faults.{all_pass, no_fault}
 use Rattle.dim_rag.proofs.Ranges.{edge_below}
 use Rattle.dim_rag.proofs.Running.{run_law}
 use Rattle.dim_rag.proofs.WithBirth.{or_parts}
@@ -106,61 +107,32 @@ module _ (n m : ℕ) (h : List Entry) where
     passes : (i : ℕ) → i < length ps → starves_at n m h ps i ≡ true
     yields : someone_yields h ps ≡ true
 
-  pub none_failing : (ps : List ℕ) (k : ℕ) → first_failing n m h ps k ≡ None → (i : ℕ) → i < k → starves_at n m h ps i ≡ true
-  none_failing ps zero q i l = absurd (omega (arith, l))
-  none_failing ps (suc k) q i l = go (first_failing n m h ps k) (starves_at n m h ps k) refl refl q (λ r j less. none_failing ps k r j less)
-    where
-      go : (o : Option ℕ) (b : Bool) → first_failing n m h ps k ≡ o → starves_at n m h ps k ≡ b → option_or o (if b then None else Some k) ≡ None
-          → (first_failing n m h ps k ≡ None → (j : ℕ) → j < k → starves_at n m h ps j ≡ true) → starves_at n m h ps i ≡ true
-      go (Some x) b r s q f = absurd (cc)
-      go None false r s q f = absurd (cc)
-      go None true r s q f = elim (cases_lt i k) [
-        | inl less ↦ f r i less
-        | inr le ↦ subst (λ j. starves_at n m h ps j ≡ true) (let e : k ≡ i = omega (arith, l, le) in e) s
-      ]
-
-  failing_none : (ps : List ℕ) (k : ℕ) → ((i : ℕ) → i < k → starves_at n m h ps i ≡ true) → first_failing n m h ps k ≡ None
-  failing_none ps zero f = refl
-  failing_none ps (suc k) f =
-      ap (λ o. option_or o (if starves_at n m h ps k then None else Some k)) (failing_none ps k (λ i l. f i (omega (arith, l))))
-      ∙ ap (λ b. if b then None else Some k) (f k (omega arith))
-
   parts : (ps : List ℕ) → starvation_fault n m h ps ≡ None → Parts ps
-  parts ps q = go (ltb (length ps) 2) (first_failing n m h ps (length ps)) (someone_yields h ps) refl refl refl q
+  parts ps q = go (ltb (length ps) 2) (first_failing (starves_at n m h ps) (length ps)) (someone_yields h ps) refl refl refl q
     where
-      go : (b : Bool) (o : Option ℕ) (y : Bool) → ltb (length ps) 2 ≡ b → first_failing n m h ps (length ps) ≡ o → someone_yields h ps ≡ y
+      go : (b : Bool) (o : Option ℕ) (y : Bool) → ltb (length ps) 2 ≡ b → first_failing (starves_at n m h ps) (length ps) ≡ o → someone_yields h ps ≡ y
           → (if b then Some 0 else option_or o (if y then None else Some 0)) ≡ None → Parts ps
       go true o y r s t q = absurd (cc)
       go false (Some i) y r s t q = absurd (cc)
       go false None false r s t q = absurd (cc)
-      go false None true r s t q = record { several = ltb-false (length ps) 2 r; passes = none_failing ps (length ps) s; yields = t }
+      go false None true r s t q = record { several = ltb-false (length ps) 2 r; passes = none_failing (starves_at n m h ps) (length ps) s; yields = t }
 
   from_parts : (ps : List ℕ) → Parts ps → starvation_fault n m h ps ≡ None
   from_parts ps k =
-      ap (λ b. if b then Some 0 else option_or (first_failing n m h ps (length ps)) (if someone_yields h ps then None else Some 0)) (le-ltb (length ps) 2 k.several)
-      ∙ ap (λ o. option_or o (if someone_yields h ps then None else Some 0)) (failing_none ps (length ps) k.passes)
+      ap (λ b. if b then Some 0 else option_or (first_failing (starves_at n m h ps) (length ps)) (if someone_yields h ps then None else Some 0)) (le-ltb (length ps) 2 k.several)
+      ∙ ap (λ o. option_or o (if someone_yields h ps then None else Some 0)) (failing_none (starves_at n m h ps) (length ps) k.passes)
       ∙ ap (λ b. if b then None else Some 0) k.yields
 
   -- the two halves of a position
-  steps_at : (ps : List ℕ) (i : ℕ) → starves_at n m h ps i ≡ true → passes_at (edge_born h) (step n m h) ps i (get_or ps i 0) ≡ true
+  steps_at : (ps : List ℕ) (i : ℕ) → starves_at n m h ps i ≡ true → passes_at (edge_born h) (step n m h) ps i ≡ true
   steps_at ps i q = (and_parts _ _ q).0
 
   new_at : (ps : List ℕ) (i : ℕ) → starves_at n m h ps i ≡ true → has_new_lock h (take i ps) (edge_born h (get_or ps i 0)) ≡ true
   new_at ps i q = (and_parts _ _ q).1
 
   -- the positions step as those of a cycle
-  no_fault : (ps : List ℕ) → Parts ps → fault (edge_born h) (step n m h) ps ≡ None
-  no_fault ps k = go (fault (edge_born h) (step n m h) ps) refl (first_fault (edge_born h) (step n m h) ps k.several)
-    where
-      go : (o : Option ℕ) → fault (edge_born h) (step n m h) ps ≡ o
-          → MatchOption o ((j q : ℕ) → slice_get ps j ≡ Some q → passes_at (edge_born h) (step n m h) ps j q ≡ true) (IsFirstFault (edge_born h) (step n m h) ps) → fault (edge_born h) (step n m h) ps ≡ None
-      go None q w = q
-      go (Some i) q w =
-          let here = steps_at ps i (k.passes i (slice_get_within ps i w.place w.there)) in
-          absurd (false≢true (sym w.fails ∙ subst (λ x. passes_at (edge_born h) (step n m h) ps i x ≡ true) (get_or_from_slice_get ps i w.place 0 w.there) here))
-
-  all_pass : (ps : List ℕ) → 2 ≤ length ps → fault (edge_born h) (step n m h) ps ≡ None → (j q : ℕ) → slice_get ps j ≡ Some q → passes_at (edge_born h) (step n m h) ps j q ≡ true
-  all_pass ps l q = subst (λ o. MatchOption o ((j p : ℕ) → slice_get ps j ≡ Some p → passes_at (edge_born h) (step n m h) ps j p ≡ true) (IsFirstFault (edge_born h) (step n m h) ps)) q (first_fault (edge_born h) (step n m h) ps l)
+  steps_pass : (ps : List ℕ) → Parts ps → fault (edge_born h) (step n m h) ps ≡ None
+  steps_pass ps k = no_fault (edge_born h) (step n m h) ps k.several (λ i l. steps_at ps i (k.passes i l))
 
   -- somebody yields
   who_yields : (c : List Edge) → ((e : Edge) → In e c → IsEdge h e) → someone_yields h (births c) ≡ true → (t : ℕ) × HasOwner t c × (is_yielding (mode t h) ≡ true)
@@ -230,7 +202,7 @@ module _ (n m : ℕ) (h : List Entry) where
   sound : (ps : List ℕ) → starvation_fault n m h ps ≡ None → (c : List Edge) × IsStarvation n m h c × (births c ≡ ps)
   sound ps q =
       let k = parts ps q in
-      let w = (certificate (edge_born h) (step n m h) finds ps).0 (no_fault ps k) in
+      let w = (certificate (edge_born h) (step n m h) finds ps).0 (steps_pass ps k) in
       let all = cycle_edges w.0 w.1 in (
         w.0,
         record {
@@ -256,7 +228,7 @@ module _ (n m : ℕ) (h : List Entry) where
         several = few;
         passes = λ i l.
             let within : i < length c = omega (arith, l, size) in
-            and_from _ _ (all_pass (births c) few none i (get_or (births c) i 0) (read (births c) i l)) (new_locks c all k.apart i z.0 within);
+            and_from _ _ (all_pass (edge_born h) (step n m h) (births c) none i l) (new_locks c all k.apart i z.0 within);
         yields = yields_told c all k.yields.0 k.yields.1 k.yields.2;
       }
     where

@@ -11,6 +11,7 @@ pub mod Steps
 pub mod Waits
 pub mod Stuck
 pub mod Born
+pub mod FirstFailing
 pub mod Certificate
 pub mod Starvation
 pub mod Places

@@ -1,5 +1,5 @@
 -- Steps of threads that wait or yield, and the starvations that they make.
-use Rattle.std.specs.Prelude.{◌≡◌, ◌≢◌, ℕ, zero, suc, ◌==◌, ◌<◌, nat_lt, Bool, true, false, ◌&&◌, not, ◌⊎◌, ◌↔◌, if◌then◌else◌, List, length, take, slice_index_or, Option, Some, None, is_none, AllPairs}
+use Rattle.std.specs.Prelude.{◌≡◌, ◌≢◌, ℕ, ◌==◌, ◌<◌, ◌≤◌, nat_lt, Bool, true, false, ◌&&◌, not, ◌⊎◌, ◌↔◌, if◌then◌else◌, List, length, take, slice_index_or, Option, Some, None, is_none, AllPairs}
 use Rattle.std.specs.Option.{option_or, option_and_then}
 use Rattle.std.specs.List.{list_any}
 use Rattle.dim_base.specs.declared.Lid.{Lid}
@@ -16,6 +16,7 @@ use Rattle.dim_rag.specs.Edges.{standing}
 use Rattle.dim_rag.specs.Waits.{waits}
 use Rattle.dim_rag.specs.Steps.{Step, HasOwner, IsCycle, births, run_into, RunsInto}
 use Rattle.dim_rag.specs.Stuck.{is_yielding, choice}
+use Rattle.dim_rag.specs.FirstFailing.{first_failing, IsFirstFailing}
 use Rattle.dim_rag.specs.Certificate.{held_at, passes_at}
 
 -- the edge to which t steps, among n threads and m locks: the hold edge on the lock on which it is allowed, or, where it yields and all its causes
@@ -53,17 +54,12 @@ someone_yields h ps = list_any (λ p. is_of_yielder h (edge_born h p)) ps
 -- has a greater number than the owner at position 0, and whose lock differs from those of the positions before it
 abbrev pub starves_at : ℕ → ℕ → List Entry → List ℕ → ℕ → Bool
 starves_at n m h ps i =
-    passes_at (edge_born h) (step n m h) ps i (slice_index_or ps i 0) && has_new_lock h (take i ps) (edge_born h (slice_index_or ps i 0))
-
--- the first of the positions below k that does not pass
-abbrev pub first_failing : ℕ → ℕ → List Entry → List ℕ → ℕ → Option ℕ
-first_failing n m h ps zero = None
-first_failing n m h ps (suc k) = option_or (first_failing n m h ps k) (if starves_at n m h ps k then None else Some k)
+    passes_at (edge_born h) (step n m h) ps i && has_new_lock h (take i ps) (edge_born h (slice_index_or ps i 0))
 
 -- the first position that does not pass, or 0 for fewer than two, and where all pass and nobody yields
 abbrev pub starvation_fault : ℕ → ℕ → List Entry → List ℕ → Option ℕ
 starvation_fault n m h ps =
-    if nat_lt (length ps) 2 then Some 0 else option_or (first_failing n m h ps (length ps)) (if someone_yields h ps then None else Some 0)
+    if nat_lt (length ps) 2 then Some 0 else option_or (first_failing (starves_at n m h ps) (length ps)) (if someone_yields h ps then None else Some 0)
 
 -- some places, if they are the births of a starvation
 abbrev pub if_starvation : ℕ → ℕ → List Entry → List ℕ → Option (List ℕ)
@@ -106,6 +102,14 @@ pub record StepLaw : Type 0 where
 -- places pass exactly where they are the births of a starvation
 abbrev pub StarvationLaw : Type 0
 StarvationLaw = (n m : ℕ) (h : List Entry) (ps : List ℕ) → (starvation_fault n m h ps ≡ None) ↔ ((c : List Edge) × IsStarvation n m h c × (births c ≡ ps))
+
+-- fewer than two places fail at 0. Of more, the first position that does not pass is found; where each does, none is found if somebody yields, and else 0
+pub record StarvationFaultLaw : Type 0 where
+  pub few : (n m : ℕ) (h : List Entry) (ps : List ℕ) → length ps < 2 → starvation_fault n m h ps ≡ Some 0
+  pub first : (n m : ℕ) (h : List Entry) (ps : List ℕ) → 2 ≤ length ps → (i : ℕ)
+      → IsFirstFailing (starves_at n m h ps) (length ps) (Some i) → starvation_fault n m h ps ≡ Some i
+  pub none : (n m : ℕ) (h : List Entry) (ps : List ℕ) → 2 ≤ length ps
+      → IsFirstFailing (starves_at n m h ps) (length ps) None → starvation_fault n m h ps ≡ (if someone_yields h ps then None else Some 0)
 
 -- the starvation of a set with a choice is the one that following steps from the choice runs into
 abbrev pub StarvedLaw : Type 0

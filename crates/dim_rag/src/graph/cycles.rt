@@ -1,9 +1,9 @@
 //! Cycles, and the places that are the births of one.
-ghost use Rattle.std.specs.Prelude.{◌≡◌, ◌+◌, ◌<◌, Some, None, IfSome, MatchResult, length, drop};
+ghost use Rattle.std.specs.Prelude.{◌≡◌, ◌<◌, Some, None, IfSome, MatchResult};
 ghost use Rattle.dim_rag.specs.Tables.{held_by};
 ghost use Rattle.dim_rag.specs.History.{past};
 ghost use Rattle.dim_rag.specs.Waits.{waits};
-ghost use Rattle.dim_rag.specs.Certificate.{held_at, next_or, cycle_fault};
+ghost use Rattle.dim_rag.specs.Certificate.{held_at, cycle_fault};
 
 use crate::births::Births;
 use crate::entry::{Edge, Mode};
@@ -27,10 +27,8 @@ impl Graph {
         if births.len() < 2 {
             return Err(0);
         }
-        let first = births.at(0);
         for i in 0..births.len() {
-            let next = next_place(births, i, first);
-            if !self.passes(Trail::Cycle, first, i, births.at(i), next) {
+            if !self.passes_at(Trail::Cycle, births, i) {
                 return Err(i);
             }
         }
@@ -70,14 +68,4 @@ fn held_by(t: Tid, holder: Option<Edge>) -> Option<Edge>
         Some(e) if e.t.0 == t.0 => Some(e),
         _ => None,
     }
-}
-
-/// The place behind position `i` of a list of places, or the first.
-#[tactic(auto, using(crate::proofs::Positions::next_at, crate::proofs::Positions::next_end))]
-pub fn next_place(births: &Births, i: u32, first: u32) -> u32
-    requires { i < length births.now }
-    ensures { result ≡ next_or first (drop (i + 1) births.now) }
-{
-    let len = births.len();
-    if i + 1 < len { births.at(i + 1) } else { first }
 }

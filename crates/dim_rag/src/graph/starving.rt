@@ -1,5 +1,5 @@
 //! Starvations, the places that are the births of one, and the starvation of a stuck set.
-ghost use Rattle.std.specs.Prelude.{◌≡◌, ◌<◌, Some, None, IfSome, MatchResult, length, take};
+ghost use Rattle.std.specs.Prelude.{◌≡◌, ◌<◌, Some, None, IfSome, MatchResult, length, take, slice_index_or};
 ghost use Rattle.std.specs.List.{list_any};
 ghost use Rattle.dim_rag.specs.History.{past};
 ghost use Rattle.dim_rag.specs.Born.{edge_born};
@@ -9,7 +9,6 @@ ghost use Rattle.dim_rag.specs.Starvation.{step, is_on, has_new_lock, is_of_yiel
 use crate::births::Births;
 use crate::entry::Edge;
 use crate::graph::Graph;
-use crate::graph::cycles::next_place;
 use crate::graph::stuck::is_yielding;
 use crate::graph::trail::Trail;
 use crate::laws::choice_law;
@@ -97,19 +96,16 @@ impl Graph {
         ensures { result ≡ starves_at self.now.threads self.now.locks (past self.now.entries)
             births.now i }
     {
-        let first = births.at(0);
-        let place = births.at(i);
-        let next = next_place(births, i, first);
-        self.passes(Trail::Starvation, first, i, place, next) && self.has_new_lock(births, i, place)
+        self.passes_at(Trail::Starvation, births, i) && self.has_new_lock(births, i)
     }
 
-    /// Whether the edge at position `i`, born at this place, is there, and its lock is that of no position before it.
-    fn has_new_lock(&self, births: &Births, i: u32, place: u32) -> bool
+    /// Whether the edge at position `i` is there, and its lock is that of no position before it.
+    fn has_new_lock(&self, births: &Births, i: u32) -> bool
         requires { i < length births.now }
         ensures { result ≡ has_new_lock (past self.now.entries) (take i births.now)
-            (edge_born (past self.now.entries) place) }
+            (edge_born (past self.now.entries) (slice_index_or births.now i 0)) }
     {
-        match self.edge_born(place) {
+        match self.edge_born(births.at(i)) {
             Some(e) => !self.is_locked_before(births, i, e.l),
             None => false,
         }

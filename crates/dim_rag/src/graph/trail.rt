@@ -1,8 +1,8 @@
 //! Trails: what threads wait for, from one to the next.
-ghost use Rattle.std.specs.Prelude.{◌≡◌, ℕ, ◌<◌, ◌≤◌, List, [], ◌∷◌, IfSome, length};
+ghost use Rattle.std.specs.Prelude.{◌≡◌, ℕ, ◌+◌, ◌<◌, ◌≤◌, List, [], ◌∷◌, IfSome, length, drop};
 ghost use Rattle.dim_rag.specs.History.{past};
 ghost use Rattle.dim_rag.specs.Steps.{walk, close};
-ghost use Rattle.dim_rag.specs.Certificate.{leads, is_later, passes};
+ghost use Rattle.dim_rag.specs.Certificate.{leads, is_later, passes, passes_at, next_or};
 ghost use Rattle.dim_rag.specs.Starvation.{step, step_on, found_on};
 
 use crate::births::Births;
@@ -87,7 +87,18 @@ impl Graph {
     }
 
     /// Whether position `i` of a list of places passes.
-    pub(crate) fn passes(&self, trail: Trail, first: u32, i: u32, place: u32, next: u32) -> bool
+    pub(crate) fn passes_at(&self, trail: Trail, births: &Births, i: u32) -> bool
+        requires { i < length births.now }
+        ensures { result
+            ≡ passes_at (found_on trail self.now.threads self.now.locks (past self.now.entries))
+            (step_on trail self.now.threads self.now.locks (past self.now.entries)) births.now i }
+    {
+        let first = births.at(0);
+        self.passes(trail, first, i, births.at(i), next_place(births, i, first))
+    }
+
+    /// Whether a place passes at position `i`, with this first place and this next one.
+    fn passes(&self, trail: Trail, first: u32, i: u32, place: u32, next: u32) -> bool
         ensures { result
             ≡ passes (found_on trail self.now.threads self.now.locks (past self.now.entries))
             (step_on trail self.now.threads self.now.locks (past self.now.entries)) first i place
@@ -113,6 +124,16 @@ impl Graph {
             },
         }
     }
+}
+
+/// The place behind position `i` of a list of places, or the first.
+#[tactic(auto, using(crate::proofs::Positions::next_at, crate::proofs::Positions::next_end))]
+fn next_place(births: &Births, i: u32, first: u32) -> u32
+    requires { i < length births.now }
+    ensures { result ≡ next_or first (drop (i + 1) births.now) }
+{
+    let len = births.len();
+    if i + 1 < len { births.at(i + 1) } else { first }
 }
 
 /// The births of a trail that came back to its first thread. One that came back at once is no cycle.
