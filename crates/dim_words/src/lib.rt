@@ -6,6 +6,7 @@ mod found;
 mod grammar;
 mod kept;
 mod kind;
+pub mod laws;
 mod parting;
 mod seen;
 
