@@ -33,14 +33,15 @@ fn tell<R: Clock + Print + Threads + Wait + Sync>(rt: &R, alloc: Global, rounds:
     requires few { rounds ≤ 50000 }
 {
     let plain = least(rt, alloc, Way::Plain, 1, rounds)?;
+    let pushed = least(rt, alloc, Way::Pushed, 1, rounds)?;
     let fed = least(rt, alloc, Way::Fed, 1, rounds)?;
     let turn = least(rt, alloc, Way::Turn, 1, rounds)?;
     let mutex = least(rt, alloc, Way::Mutex, 1, rounds)?;
-    println!(rt; "threads 1 plain {plain} fed {fed} turn {turn} mutex {mutex}")?;
+    println!(rt; "threads 1 plain {plain} pushed {pushed} fed {fed} turn {turn} mutex {mutex}")?;
     for threads in [2, 4] {
         let turn = least(rt, alloc, Way::Turn, threads, rounds)?;
         let mutex = least(rt, alloc, Way::Mutex, threads, rounds)?;
-        println!(rt; "threads {threads} plain - fed - turn {turn} mutex {mutex}")?;
+        println!(rt; "threads {threads} plain - pushed - fed - turn {turn} mutex {mutex}")?;
     }
     Ok(())
 }

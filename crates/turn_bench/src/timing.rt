@@ -21,6 +21,8 @@ const TIMES: u32 = 5;
 pub enum Way {
     /// One caller without a lock.
     Plain,
+    /// The same, at a gate with a feed, of which nobody takes the notes.
+    Pushed,
     /// The same, at a gate with a feed, where the caller takes each note.
     Fed,
     Turn,
@@ -42,6 +44,7 @@ pub fn least<R: Clock + Threads + Wait + Sync>(
     for _ in 0..TIMES {
         let cost = match way {
             Way::Plain => time_plain(rt, alloc, 3 * rounds)?,
+            Way::Pushed => time_pushed(rt, alloc, 3 * rounds)?,
             Way::Fed => time_fed(rt, alloc, 3 * rounds)?,
             Way::Turn => time_turn(rt, alloc, callers, 3 * rounds)?,
             Way::Mutex => time_mutex(rt, alloc, callers, 3 * rounds)?,
@@ -73,6 +76,18 @@ fn time_plain<R: Clock>(rt: &R, alloc: Global, steps: u32) -> Result<u128>
     requires { 1 ≤ steps }
 {
     let mut desk = Desk::new(alloc, steps).map_err(no_memory)?;
+    let start = Instant::now(rt);
+    play_plain(&mut desk, steps);
+    cost(start, Instant::now(rt), &desk.gate, steps)
+}
+
+fn time_pushed<R: Clock>(rt: &R, alloc: Global, steps: u32) -> Result<u128>
+    requires { 1 ≤ steps }
+{
+    let (mut desk, _inbox) = match new_fed(alloc, steps) {
+        Ok(made) => made,
+        Err(error) => return Err(no_memory(error)),
+    };
     let start = Instant::now(rt);
     play_plain(&mut desk, steps);
     cost(start, Instant::now(rt), &desk.gate, steps)
