@@ -37,5 +37,6 @@ empty_few sigs e = let n : length sigs ≡ 0 = ap length e in omega (arith, n)
 pub empty_read : (h : History) → h.names ≡ [] → h.catalogue.sigs ≡ [] → IsRead h
 empty_read h e f = record {
   names = e ∙ ap (λ sigs. table_of (names_used (named h.names sigs))) (sym f);
+  few = let n : length h.names ≡ 0 = ap length e in omega (arith, n);
   near = subst AreNear (sym f) (All-nil _);
 }
