@@ -7,16 +7,16 @@ use Rattle.dim_stack.specs.declared.Frame.{Frame}
 use Rattle.dim_rag.specs.declared.entry.Entry.{Entry}
 use Rattle.dim_rag.specs.declared.entry.Entry.TheVariants.{Go, Yield, Got, Free, Took, Miss, End, Break, Learn}
 use Rattle.dim_rag.specs.declared.entry.MissWhy.TheVariants.{Busy, Avoid}
-use Rattle.dim_rag.specs.declared.journal.brief.Span.{Span}
 use Rattle.dim_rag.specs.declared.journal.brief.Brief.{Brief}
 use Rattle.dim_rag.specs.declared.journal.brief.Brief.TheVariants as brief
-use Rattle.dim_rag.specs.Journal.{frames_in, births_at, entry_of, entries_of, stack_of, births_of, brief_of, IsIn, IsWithin, IsJournal}
+use Rattle.dim_rag.specs.Span.{Extent, frames_in, IsIn}
+use Rattle.dim_rag.specs.Journal.{births_at, entry_of, entries_of, stack_of, births_of, brief_of, IsWithin, IsJournal}
 
 pub none_more : {X : Type 0} (xs : List X) → xs ≡ xs ++ []
 none_more xs = sym (append-nil xs)
 
 -- the frames of a span stay
-frames_stay : (fs xs : List Frame) (p : Span) → IsIn (length fs) p → frames_in (fs ++ xs) p ≡ frames_in fs p
+frames_stay : (fs xs : List Frame) (p : Extent) → IsIn (length fs) p → frames_in (fs ++ xs) p ≡ frames_in fs p
 frames_stay fs xs p k =
     let n : length (drop p.start fs) ≡ length fs - p.start = length-drop p.start fs in
     ap (take p.len) (drop-append-le p.start fs xs (omega (arith, k.1.1)))
@@ -113,6 +113,7 @@ journal_more spare briefs_room frames_room births_room briefs frames births e b 
     record {
       within = All-push (IsWithin (length (frames ++ stack_of e)) (length (births ++ births_of e))) briefs b (λ i d lt. rw (n, m) (within_grows (length frames) (length births) (length (stack_of e)) (length (births_of e)) (get_or briefs i d) (k.within i d lt))) w;
       few = omega (arith, m, few, p, k.few);
+      few_frames = omega (arith, n, short, p, k.few_frames);
       small = omega (arith, p, one, k.small);
       room = omega (arith, p, one, k.room);
       room_frames = omega (arith, n, one, short, k.room_frames, more_frames);

@@ -1,5 +1,5 @@
 -- How entries are kept: in brief, with their frames and their births in lists beside.
-use Rattle.std.specs.Prelude.{ℕ, ◌+◌, ◌*◌, ◌<◌, ◌≤◌, ⊤, ◌^◌, List, [], ◌∷◌, length, take, drop, map, slice_index_or, All}
+use Rattle.std.specs.Prelude.{ℕ, ◌+◌, ◌*◌, ◌<◌, ◌≤◌, ⊤, ◌^◌, List, [], ◌∷◌, length, map, slice_index_or, All}
 use Rattle.dim_base.specs.declared.Tid.{Tid}
 use Rattle.dim_base.specs.declared.Lid.{Lid}
 use Rattle.dim_stack.specs.declared.Frame.{Frame}
@@ -7,7 +7,7 @@ use Rattle.dim_rag.specs.declared.entry.Entry.{Entry}
 use Rattle.dim_rag.specs.declared.entry.Entry.TheVariants.{Go, Yield, Got, Free, Took, Miss, End, Break, Learn}
 use Rattle.dim_rag.specs.declared.entry.MissWhy.{MissWhy}
 use Rattle.dim_rag.specs.declared.entry.MissWhy.TheVariants.{Busy, Avoid}
-use Rattle.dim_rag.specs.declared.journal.brief.Span.{Span}
+use Rattle.dim_rag.specs.Span.{Extent, frames_in, IsIn}
 use Rattle.dim_rag.specs.declared.journal.brief.Brief.{Brief}
 use Rattle.dim_rag.specs.declared.journal.brief.Brief.TheVariants as brief
 
@@ -15,10 +15,6 @@ use Rattle.dim_rag.specs.declared.journal.brief.Brief.TheVariants as brief
 pub record Recorded : Type 0 where
   pub entries : List Entry
   pub spare : ℕ
-
--- the frames of a span
-abbrev pub frames_in : List Frame → Span → List Frame
-frames_in fs p = take p.len (drop p.start fs)
 
 -- births by their number
 abbrev pub births_at : List (List ℕ) → ℕ → List ℕ
@@ -71,7 +67,7 @@ births_of (Break set t) = []
 births_of (Learn b) = b ∷ []
 
 -- a miss in brief
-abbrev pub brief_of_miss : Tid → Lid → Span → ℕ → MissWhy → Brief
+abbrev pub brief_of_miss : Tid → Lid → Extent → ℕ → MissWhy → Brief
 brief_of_miss t l p m (Busy holder) = brief.MissedBusy t l p holder
 brief_of_miss t l p m (Avoid named) = brief.MissedAvoid t l p named.sig m
 
@@ -86,10 +82,6 @@ brief_of n m (Miss t l s why) = brief_of_miss t l record { start = n; len = leng
 brief_of n m (End t why) = brief.Ended t why
 brief_of n m (Break set t) = brief.Broken set t
 brief_of n m (Learn b) = brief.Learnt m
-
--- a span is of 1 to 32 of n frames
-abbrev pub IsIn : ℕ → Span → Type 0
-IsIn n p = (1 ≤ p.len) × ((p.len ≤ 32) × (p.start + p.len ≤ n))
 
 -- what a brief entry names is among n frames and m lists of births
 abbrev pub IsWithin : ℕ → ℕ → Brief → Type 0
@@ -108,6 +100,7 @@ IsWithin n m (brief.Learnt b) = b < m
 pub record IsJournal (spare briefs_room frames_room births_room : ℕ) (briefs : List Brief) (frames : List Frame) (births : List (List ℕ)) : Type 0 where
   pub within : All (IsWithin (length frames) (length births)) briefs
   pub few : length births ≤ length briefs
+  pub few_frames : length frames ≤ 32 * length briefs
   pub small : length briefs + spare < 2 ^ 32
   pub room : length briefs + spare ≤ briefs_room
   pub room_frames : length frames + 32 * spare ≤ frames_room

@@ -6,6 +6,7 @@ ghost use Rattle.dim_rag.specs.Yielded.{yielded};
 
 pub mod brief;
 mod comparing;
+mod span;
 
 use crate::births::Births;
 use crate::entry::{Entry, MissWhy};
@@ -19,7 +20,7 @@ use std::marker::Model;
 
 /// The entries of a history, oldest first.
 ///
-/// A contract sees them, and for how many further ones there is room. An entry takes 40 bytes, 8 for each frame of its stack, and
+/// A contract sees them, and for how many further ones there is room. An entry takes 28 bytes, 8 for each frame of its stack, and
 /// 136 for its births where it has some. No call but `reserve` and `entries` takes memory.
 #[derive(Drop)]
 pub struct Journal {

@@ -4,21 +4,16 @@ ghost use Rattle.dim_stack.specs.declared.Frame.{Frame};
 ghost use Rattle.dim_rag.specs.declared.entry.MissWhy.TheVariants.{Avoid};
 ghost use Rattle.dim_rag.specs.Shown.{HasStack, shown};
 ghost use Rattle.dim_rag.specs.Yielded.{yielded};
-ghost use Rattle.dim_rag.specs.Journal.{IsIn, IsWithin, frames_in, births_at, stack_of, births_of, births_of_miss, brief_of, brief_of_miss, entry_of};
+ghost use Rattle.dim_rag.specs.Span.{IsIn, frames_in};
+ghost use Rattle.dim_rag.specs.Journal.{IsWithin, births_at, stack_of, births_of, births_of_miss, brief_of, brief_of_miss, entry_of};
 
 use crate::births::Births;
 use crate::entry::{Entry, MissWhy, Named, Why};
 use crate::entry_ref::EntryRef;
+use crate::journal::span::Span;
 use dim_base::{Lid, Tid};
 use dim_stack::{Frame, Stack};
 use std::mem::size_of;
-
-/// Where the frames of a stack lie in a list: from `start` on, `len` of them.
-#[derive(Clone, Copy)]
-pub struct Span {
-    pub start: usize,
-    pub len: u32,
-}
 
 /// An entry in brief. Its stack is a span of a list of frames, and its births are the number of an item of a list of these.
 #[derive(Clone, Copy)]
@@ -74,21 +69,21 @@ pub enum Brief {
     },
 }
 
-// An entry in brief takes at most 40 bytes.
-const _: () = prove!(size_of::<Brief>() <= 40);
+// An entry in brief takes at most 28 bytes.
+const _: () = prove!(size_of::<Brief>() <= 28);
 
 /// Puts the frames of a stack behind the others, in the room that is there.
 fn keep_stack(frames: &mut Vec<Frame>, stack: &Stack) -> Span
-    requires { vec_len frames.old + 32 ≤ vec_capacity frames.old }
+    requires room { vec_len frames.old + 32 ≤ vec_capacity frames.old }
+    requires few { vec_len frames.old < 2 ^ 48 }
     ensures items { frames.new.items ≡ frames.old.items ++ stack.now }
     ensures capacity { vec_capacity frames.old ≤ vec_capacity frames.new }
     ensures span { result ≡ record { start = length frames.old.items; len = length stack.now } }
     ensures within { IsIn (length frames.new.items) result }
 {
-    let start = frames.len();
-    let len = stack.len();
+    let span = Span::new(frames.len(), stack.len());
     let _kept = frames.extend_from_slice(stack.as_slice());
-    Span { start, len }
+    span
 }
 
 /// Puts births behind the others, in the room that is there. It answers their number.
@@ -109,6 +104,7 @@ fn keep_births(all: &mut Vec<Births>, births: &Births) -> u32
 pub fn brief_of(frames: &mut Vec<Frame>, births: &mut Vec<Births>, e: &Entry) -> Brief
     requires frames_room { vec_len frames.old + 32 ≤ vec_capacity frames.old }
     requires births_room { vec_len births.old < vec_capacity births.old }
+    requires few_frames { vec_len frames.old < 2 ^ 48 }
     requires few { vec_len births.old < 2 ^ 32 }
     ensures frames { frames.new.items ≡ frames.old.items ++ stack_of e.now }
     ensures births { births.new.items ≡ births.old.items ++ births_of e.now }
@@ -188,8 +184,7 @@ fn stack_in(frames: &[Frame], span: &Span) -> Stack
     requires { IsIn (length frames.now) span.now }
     ensures { result ≡ frames_in frames.now span.now }
 {
-    let end = span.start + span.len as usize;
-    Stack::new(&frames[span.start..end])
+    Stack::new(span.of(frames))
 }
 
 /// Births by their number.
@@ -262,17 +257,6 @@ pub fn entry_of(frames: &[Frame], births: &[Births], brief: &Brief) -> Entry
     }
 }
 
-/// The frames in a span.
-fn frames_in<'a>(frames: &'a [Frame], span: &Span) -> &'a [Frame]
-    requires { IsIn (length frames.now) span.now }
-    ensures value { result.now ≡ frames_in frames.now span.now }
-    ensures some { 1 ≤ length result.now }
-    ensures few { length result.now ≤ 32 }
-{
-    let end = span.start + span.len as usize;
-    &frames[span.start..end]
-}
-
 /// The entry that a brief one stands for, by reference.
 pub fn look<'a>(frames: &'a [Frame], births: &'a [Births], brief: &Brief) -> EntryRef<'a>
     requires { IsWithin (length frames.now) (length births.now) brief.now }
@@ -283,7 +267,7 @@ pub fn look<'a>(frames: &'a [Frame], births: &'a [Births], brief: &Brief) -> Ent
         Brief::Went { t, l, stack } => EntryRef::Go {
             t: *t,
             l: *l,
-            stack: frames_in(frames, stack),
+            stack: stack.of(frames),
         },
         Brief::Yielded {
             t,
@@ -294,7 +278,7 @@ pub fn look<'a>(frames: &'a [Frame], births: &'a [Births], brief: &Brief) -> Ent
         } => EntryRef::Yield {
             t: *t,
             l: *l,
-            stack: frames_in(frames, stack),
+            stack: stack.of(frames),
             sig: *sig,
             births: &births[*causes as usize],
         },
@@ -303,7 +287,7 @@ pub fn look<'a>(frames: &'a [Frame], births: &'a [Births], brief: &Brief) -> Ent
         Brief::Took { t, l, stack } => EntryRef::Took {
             t: *t,
             l: *l,
-            stack: frames_in(frames, stack),
+            stack: stack.of(frames),
         },
         Brief::MissedBusy {
             t,
@@ -313,7 +297,7 @@ pub fn look<'a>(frames: &'a [Frame], births: &'a [Births], brief: &Brief) -> Ent
         } => EntryRef::MissBusy {
             t: *t,
             l: *l,
-            stack: frames_in(frames, stack),
+            stack: stack.of(frames),
             holder: *holder,
         },
         Brief::MissedAvoid {
@@ -325,7 +309,7 @@ pub fn look<'a>(frames: &'a [Frame], births: &'a [Births], brief: &Brief) -> Ent
         } => EntryRef::MissAvoid {
             t: *t,
             l: *l,
-            stack: frames_in(frames, stack),
+            stack: stack.of(frames),
             sig: *sig,
             births: &births[*causes as usize],
         },

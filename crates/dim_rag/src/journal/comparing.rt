@@ -1,9 +1,11 @@
 //! Entries in brief, compared with entries.
 ghost use Rattle.std.specs.Prelude.{◌≡◌, ◌↔◌, length, IsTrue};
-ghost use Rattle.dim_rag.specs.Journal.{IsIn, IsWithin, frames_in, entry_of};
+ghost use Rattle.dim_rag.specs.Span.{IsIn, frames_in};
+ghost use Rattle.dim_rag.specs.Journal.{IsWithin, entry_of};
 ghost use Rattle.dim_rag.specs.Shown.{HasStack, shown};
 
-use super::brief::{Brief, Span, entry_of};
+use super::brief::{Brief, entry_of};
+use super::span::Span;
 use crate::births::Births;
 use crate::entry::same_entry;
 use crate::entry_ref::EntryRef;
@@ -65,6 +67,5 @@ fn are_in(frames: &[Frame], span: &Span, stack: &[Frame]) -> bool
     requires { IsIn (length frames.now) span.now }
     ensures { IsTrue result ↔ (frames_in frames.now span.now ≡ stack.now) }
 {
-    let end = span.start + span.len as usize;
-    &frames[span.start..end] == stack
+    span.of(frames) == stack
 }
