@@ -1,11 +1,11 @@
 //! Entries by reference.
 ghost use Rattle.std.specs.Prelude.{◌≡◌};
 ghost use Rattle.dim_rag.specs.declared.entry.Entry.TheVariants.{Miss};
+ghost use Rattle.dim_rag.specs.declared.entry.MissWhy.TheVariants.{Avoid};
 ghost use Rattle.dim_rag.specs.Shown.{HasStack, shown};
 
 use crate::births::Births;
-use crate::entry::{Entry, MissWhy, Why};
-use crate::journal::brief::avoided;
+use crate::entry::{Entry, MissWhy, Named, Why};
 use dim_base::{Lid, Tid};
 use dim_stack::{Frame, Stack};
 
@@ -184,4 +184,11 @@ impl<'a> EntryRef<'a> {
             EntryRef::Learn { births } => Entry::Learn { births: **births },
         }
     }
+}
+
+/// Why a try took no lock that would have completed a cover.
+fn avoided(sig: u32, births: Births) -> MissWhy
+    ensures { result ≡ Avoid record { sig = sig; births = births } }
+{
+    MissWhy::Avoid(Named { sig, births })
 }

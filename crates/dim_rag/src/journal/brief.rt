@@ -1,14 +1,13 @@
 //! Entries in brief: what of them has a small size, and where the rest of them lies.
 ghost use Rattle.std.specs.Prelude.{◌≡◌, ℕ, List, ◌∷◌, [], ◌+◌, ◌<◌, ◌≤◌, ◌^◌, ◌++◌, length, vec_len, vec_capacity};
 ghost use Rattle.dim_stack.specs.declared.Frame.{Frame};
-ghost use Rattle.dim_rag.specs.declared.entry.MissWhy.TheVariants.{Avoid};
 ghost use Rattle.dim_rag.specs.Shown.{HasStack, shown};
 ghost use Rattle.dim_rag.specs.Yielded.{yielded};
-ghost use Rattle.dim_rag.specs.Span.{IsIn, frames_in};
-ghost use Rattle.dim_rag.specs.Journal.{IsWithin, births_at, stack_of, births_of, births_of_miss, brief_of, brief_of_miss, entry_of};
+ghost use Rattle.dim_rag.specs.Span.{IsIn};
+ghost use Rattle.dim_rag.specs.Journal.{IsWithin, stack_of, births_of, births_of_miss, brief_of, brief_of_miss, entry_of};
 
 use crate::births::Births;
-use crate::entry::{Entry, MissWhy, Named, Why};
+use crate::entry::{Entry, MissWhy, Why};
 use crate::entry_ref::EntryRef;
 use crate::journal::span::Span;
 use dim_base::{Lid, Tid};
@@ -179,84 +178,6 @@ fn brief_of_miss(births: &mut Vec<Births>, t: Tid, l: Lid, stack: Span, why: &Mi
     }
 }
 
-/// The stack whose frames lie in a span.
-fn stack_in(frames: &[Frame], span: &Span) -> Stack
-    requires { IsIn (length frames.now) span.now }
-    ensures { result ≡ frames_in frames.now span.now }
-{
-    Stack::new(span.of(frames))
-}
-
-/// Births by their number.
-fn births_at(births: &[Births], number: u32) -> Births
-    requires { number < length births.now }
-    ensures { result ≡ births_at births.now number }
-{
-    births[number as usize]
-}
-
-/// The entry that a brief one stands for.
-pub fn entry_of(frames: &[Frame], births: &[Births], brief: &Brief) -> Entry
-    requires { IsWithin (length frames.now) (length births.now) brief.now }
-    ensures { result ≡ entry_of frames.now births.now brief.now }
-{
-    match brief {
-        Brief::Went { t, l, stack } => Entry::Go {
-            t: *t,
-            l: *l,
-            stack: stack_in(frames, stack),
-        },
-        Brief::Yielded {
-            t,
-            l,
-            stack,
-            sig,
-            births: causes,
-        } => Entry::Yield {
-            t: *t,
-            l: *l,
-            stack: stack_in(frames, stack),
-            sig: *sig,
-            births: births_at(births, *causes),
-        },
-        Brief::Obtained { t, l } => Entry::Got { t: *t, l: *l },
-        Brief::Freed { t, l } => Entry::Free { t: *t, l: *l },
-        Brief::Took { t, l, stack } => Entry::Took {
-            t: *t,
-            l: *l,
-            stack: stack_in(frames, stack),
-        },
-        Brief::MissedBusy {
-            t,
-            l,
-            stack,
-            holder,
-        } => Entry::Miss {
-            t: *t,
-            l: *l,
-            stack: stack_in(frames, stack),
-            why: MissWhy::Busy { holder: *holder },
-        },
-        Brief::MissedAvoid {
-            t,
-            l,
-            stack,
-            sig,
-            births: causes,
-        } => Entry::Miss {
-            t: *t,
-            l: *l,
-            stack: stack_in(frames, stack),
-            why: avoided(*sig, births_at(births, *causes)),
-        },
-        Brief::Ended { t, why } => Entry::End { t: *t, why: *why },
-        Brief::Broken { set, t } => Entry::Break { set: *set, t: *t },
-        Brief::Learnt { births: cycle } => Entry::Learn {
-            births: births_at(births, *cycle),
-        },
-    }
-}
-
 /// The entry that a brief one stands for, by reference.
 pub fn look<'a>(frames: &'a [Frame], births: &'a [Births], brief: &Brief) -> EntryRef<'a>
     requires { IsWithin (length frames.now) (length births.now) brief.now }
@@ -321,6 +242,14 @@ pub fn look<'a>(frames: &'a [Frame], births: &'a [Births], brief: &Brief) -> Ent
     }
 }
 
+/// The entry that a brief one stands for.
+pub fn entry_of(frames: &[Frame], births: &[Births], brief: &Brief) -> Entry
+    requires { IsWithin (length frames.now) (length births.now) brief.now }
+    ensures { result ≡ entry_of frames.now births.now brief.now }
+{
+    look(frames, births, brief).entry()
+}
+
 /// The number of the signature that a brief entry names, where it stands for a Yield.
 pub fn yielded(brief: &Brief) -> Option<u32>
     ensures { (fs : List Frame) (bs : List (List ℕ)) → yielded (entry_of fs bs brief.now) ≡ result }
@@ -329,11 +258,4 @@ pub fn yielded(brief: &Brief) -> Option<u32>
         Brief::Yielded { sig, .. } => Some(*sig),
         _ => None,
     }
-}
-
-/// Why a try took no lock that would have completed a cover.
-pub fn avoided(sig: u32, births: Births) -> MissWhy
-    ensures { result ≡ Avoid record { sig = sig; births = births } }
-{
-    MissWhy::Avoid(Named { sig, births })
 }
