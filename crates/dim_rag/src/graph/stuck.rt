@@ -2,11 +2,12 @@
 ghost use Rattle.std.specs.Prelude.{◌≡◌, ◌<◌, Some, None, MatchResult, option_map, is_some};
 ghost use Rattle.dim_base.specs.declared.Tid.{Tid};
 ghost use Rattle.dim_rag.specs.History.{past, mode, hold, latest_wish};
-ghost use Rattle.dim_rag.specs.Stuck.{is_held, is_held_by, IsStuck, IsFirstFree, stale, holds, holds_more, may_choose, is_yielding, choice};
+ghost use Rattle.dim_rag.specs.Holder.{holder};
+ghost use Rattle.dim_rag.specs.Stuck.{is_owner_in, is_held, is_held_by, IsStuck, IsFirstFree, stale, holds, holds_more, may_choose, is_yielding, choice};
 
 use crate::entry::Mode;
 use crate::graph::Graph;
-use crate::graph::set::{is_member, is_owner_in};
+use crate::graph::set::is_member;
 use dim_base::{Lid, Tid};
 
 impl Graph {
@@ -63,7 +64,19 @@ impl Graph {
             Mode::Ended { .. } => true,
             Mode::Running => false,
             Mode::Yielding { .. } => self.standing_in(set, t).is_some(),
-            Mode::Allowed { .. } => is_owner_in(set, &self.waits_for(t)),
+            Mode::Allowed { l, .. } => self.is_held_within(set, l),
+        }
+    }
+
+    /// Whether a lock is held by a member of a set.
+    fn is_held_within(&self, set: u32, l: Lid) -> bool
+        requires { l.0 < self.now.locks }
+        ensures { result
+            ≡ is_owner_in set (holder self.now.threads l.0 (past self.now.entries)) }
+    {
+        match self.owner(l) {
+            Some(t) => is_member(set, t.0),
+            None => false,
         }
     }
 
