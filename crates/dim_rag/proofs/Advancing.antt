@@ -1,9 +1,12 @@
 -- What steps from a thread run into, as a loop finds it.
 use Rattle.std.proofs.Common.{◌≡◌, ℕ, suc, ◌+◌, ◌-◌, ◌<◌, ◌≤◌, ap, sym, ◌∙◌, arith, List, []}
-use Rattle.std.specs.Prelude.{Option, Some, None}
+use Rattle.std.specs.Prelude.{Option, Some, None, option_map}
 use Rattle.std.specs.Option.{option_or, option_and_then}
 use Rattle.dim_rag.specs.declared.entry.Edge.{Edge}
+use Rattle.dim_rag.specs.declared.graph.link.Link.{Link}
+use Rattle.dim_rag.specs.Links.{link_of}
 use Rattle.dim_rag.specs.Steps.{Step, walk, run_into}
+use Rattle.dim_rag.proofs.Links.{by_edge, no_edge}
 
 module _ (s : Step) (n i at : ℕ) (r : Option (List ℕ)) (inv : run_into s n (n - i) at ≡ r) where
   unrolled : i < n → r ≡ option_or (walk s at n at []) (option_and_then (λ (e : Edge). run_into s n (n - (i + 1)) e.t.0) (s at))
@@ -19,12 +22,12 @@ module _ (s : Step) (n i at : ℕ) (r : Option (List ℕ)) (inv : run_into s n (
       ∙ ap (option_and_then (λ (e : Edge). run_into s n (n - (i + 1)) e.t.0)) p
 
   -- the thread steps nowhere
-  pub ends : i < n → walk s at n at [] ≡ None → s at ≡ None → r ≡ None
-  ends l q p = on l q None p
+  pub ends : i < n → walk s at n at [] ≡ None → option_map link_of (s at) ≡ None → r ≡ None
+  ends l q p = on l q None (no_edge (s at) p)
 
   -- it steps to the next
-  pub goes_on : i < n → walk s at n at [] ≡ None → (e : Edge) → s at ≡ Some e → run_into s n (n - (i + 1)) e.t.0 ≡ r
-  goes_on l q e p = sym (on l q (Some e) p)
+  pub goes_on : i < n → walk s at n at [] ≡ None → (x : Link) → option_map link_of (s at) ≡ Some x → run_into s n (n - (i + 1)) x.t.0 ≡ r
+  goes_on l q x p = by_edge (λ y. run_into s n (n - (i + 1)) y.t.0 ≡ r) (s at) x p (λ e here. sym (on l q (Some e) here))
 
   -- as many threads as there are have been tried
   pub ends_long : n ≤ i → r ≡ None

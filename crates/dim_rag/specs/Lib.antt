@@ -22,3 +22,4 @@ pub mod Span
 pub mod Journal
 pub mod Yielded
 pub mod Shown
+pub mod Links

@@ -7,12 +7,14 @@ ghost use Rattle.dim_rag.specs.Counts.{times_held};
 ghost use Rattle.dim_rag.specs.Fits.{Fits, FitsAfter, IsUnheld, IsInRange, AreInRange};
 ghost use Rattle.dim_rag.specs.Tables.{HasLockBelow, held_by};
 ghost use Rattle.dim_rag.specs.Rows.{idle_row};
+ghost use Rattle.dim_rag.specs.Links.{link_of};
 
 mod born;
 mod causes;
 mod cycles;
 mod fits;
 mod holder;
+mod link;
 mod row;
 mod set;
 mod starving;
@@ -23,6 +25,7 @@ mod trail;
 use crate::entry::{Edge, Entry, Mode};
 use dim_base::{Lid, OutOfMemory, Tid};
 use holder::Holder;
+use link::Link;
 use row::{Row, replay};
 pub use set::{is_member, without};
 use std::alloc::Global;
@@ -181,6 +184,16 @@ impl Graph {
             ≡ option_map (λ (e : Edge). e.t) (holder self.now.threads l.0 (past self.now.entries)) }
     {
         self.holders[l.0 as usize].owner()
+    }
+
+    /// The owner and the birth of the hold edge on a lock; none exactly where no thread holds it.
+    fn holder_link(&self, l: Lid) -> Option<Link>
+        requires { l.0 < self.now.locks }
+        ensures value { result
+            ≡ option_map link_of (holder self.now.threads l.0 (past self.now.entries)) }
+        ensures thread { IfSome result (λ x. x.t.0 < self.now.threads) }
+    {
+        self.holders[l.0 as usize].link()
     }
 
     /// The birth of the hold edge of a thread on a lock; none exactly where the thread doesn't hold it. It copies no edge.

@@ -1,11 +1,13 @@
 //! Edges by their births.
-ghost use Rattle.std.specs.Prelude.{◌≡◌, ℕ, ◌<◌, Some, IfSome};
+ghost use Rattle.std.specs.Prelude.{◌≡◌, ℕ, ◌<◌, Some, IfSome, option_map};
 ghost use Rattle.dim_rag.specs.declared.entry.Edge.{Edge};
 ghost use Rattle.dim_rag.specs.History.{past, allow, hold};
 ghost use Rattle.dim_rag.specs.Born.{IsEdge, edge_born};
+ghost use Rattle.dim_rag.specs.Links.{link_of};
 
 use crate::entry::Edge;
 use crate::graph::Graph;
+use crate::graph::link::Link;
 use dim_base::{Lid, Tid};
 
 impl Graph {
@@ -25,6 +27,17 @@ impl Graph {
         match self.any_allow_born(birth) {
             Some(e) => Some(e),
             None => self.any_hold_born(birth),
+        }
+    }
+
+    /// The owner and the birth of the edge with a birth, if there is one.
+    pub(crate) fn link_born(&self, birth: u32) -> Option<Link>
+        ensures value { result ≡ option_map link_of (edge_born (past self.now.entries) birth) }
+        ensures thread { IfSome result (λ x. x.t.0 < self.now.threads) }
+    {
+        match self.edge_born(birth) {
+            Some(e) => Some(Link::of(&e)),
+            None => None,
         }
     }
 

@@ -1,13 +1,15 @@
 //! Cycles, and the places that are the births of one.
-ghost use Rattle.std.specs.Prelude.{◌≡◌, ◌<◌, Some, None, IfSome, MatchResult};
+ghost use Rattle.std.specs.Prelude.{◌≡◌, ◌<◌, Some, None, IfSome, MatchResult, option_map};
 ghost use Rattle.dim_rag.specs.Tables.{held_by};
 ghost use Rattle.dim_rag.specs.History.{past};
 ghost use Rattle.dim_rag.specs.Waits.{waits};
 ghost use Rattle.dim_rag.specs.Certificate.{held_at, cycle_fault};
+ghost use Rattle.dim_rag.specs.Links.{link_of};
 
 use crate::births::Births;
 use crate::entry::{Edge, Mode};
 use crate::graph::Graph;
+use crate::graph::link::Link;
 use crate::graph::trail::Trail;
 use dim_base::Tid;
 
@@ -43,6 +45,20 @@ impl Graph {
     {
         match self.mode(t) {
             Mode::Allowed { l, .. } => self.holder(l),
+            _ => None,
+        }
+    }
+
+    /// The owner and the birth of the hold edge on the lock on which a thread is allowed; none exactly
+    /// where it is allowed on none, or nobody holds that.
+    pub(crate) fn wait_link(&self, t: Tid) -> Option<Link>
+        requires { t.0 < self.now.threads }
+        ensures value { result
+            ≡ option_map link_of (waits self.now.threads (past self.now.entries) t.0) }
+        ensures thread { IfSome result (λ x. x.t.0 < self.now.threads) }
+    {
+        match self.mode(t) {
+            Mode::Allowed { l, .. } => self.holder_link(l),
             _ => None,
         }
     }

@@ -4,8 +4,10 @@ ghost use Rattle.dim_rag.specs.declared.entry.Edge.{Edge};
 ghost use Rattle.dim_rag.specs.Tables.{held_by};
 ghost use Rattle.dim_rag.specs.Born.{with_birth};
 ghost use Rattle.dim_rag.specs.Rows.{may_take_by};
+ghost use Rattle.dim_rag.specs.Links.{link_of};
 
 use crate::entry::Edge;
+use crate::graph::link::Link;
 use dim_base::{Lid, Tid};
 use dim_stack::{Frame, Stack};
 use std::marker::Model;
@@ -100,6 +102,17 @@ impl Holder {
     {
         if self.is_held {
             Some(self.edge.t)
+        } else {
+            None
+        }
+    }
+
+    /// The owner and the birth of the hold edge, if there is one.
+    pub fn link(&self) -> Option<Link>
+        ensures { result ≡ option_map link_of self.now }
+    {
+        if self.is_held {
+            Some(Link::of(&self.edge))
         } else {
             None
         }

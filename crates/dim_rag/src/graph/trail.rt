@@ -1,13 +1,15 @@
 //! Trails: what threads wait for, from one to the next.
-ghost use Rattle.std.specs.Prelude.{◌≡◌, ℕ, ◌+◌, ◌<◌, ◌≤◌, List, [], ◌∷◌, IfSome, length, drop};
+ghost use Rattle.std.specs.Prelude.{◌≡◌, ℕ, ◌+◌, ◌<◌, ◌≤◌, List, [], ◌∷◌, IfSome, length, drop, option_map};
 ghost use Rattle.dim_rag.specs.History.{past};
 ghost use Rattle.dim_rag.specs.Steps.{walk, close};
 ghost use Rattle.dim_rag.specs.Certificate.{leads, is_later, passes, passes_at, next_or};
 ghost use Rattle.dim_rag.specs.Starvation.{step, step_on, found_on};
+ghost use Rattle.dim_rag.specs.Links.{link_of};
 
 use crate::births::Births;
 use crate::entry::Edge;
 use crate::graph::Graph;
+use crate::graph::link::Link;
 use dim_base::Tid;
 
 /// Along which edges a trail goes from thread to thread.
@@ -47,31 +49,36 @@ impl Graph {
         None
     }
 
-    /// The edge to which a thread steps on a trail, if it does.
-    pub(crate) fn step_on(&self, trail: Trail, t: Tid) -> Option<Edge>
+    /// The owner and the birth of the edge to which a thread steps on a trail, if it does.
+    pub(crate) fn step_on(&self, trail: Trail, t: Tid) -> Option<Link>
         requires { t.0 < self.now.threads }
-        ensures value { result ≡ step_on trail self.now.threads self.now.locks
-            (past self.now.entries) t.0 }
-        ensures thread { IfSome result (λ e. e.t.0 < self.now.threads) }
+        ensures value { result
+            ≡ option_map link_of
+            (step_on trail self.now.threads self.now.locks (past self.now.entries) t.0) }
+        ensures thread { IfSome result (λ x. x.t.0 < self.now.threads) }
     {
         match trail {
-            Trail::Cycle => self.waits_for(t),
+            Trail::Cycle => self.wait_link(t),
             Trail::Starvation => self.step(t),
         }
     }
 
-    /// The edge to which a thread steps: the hold edge on the lock on which it is allowed, or, where it yields and all its causes stand, the
-    /// edge of the first of them.
-    fn step(&self, t: Tid) -> Option<Edge>
+    /// The owner and the birth of the edge to which a thread steps.
+    ///
+    /// That is the hold edge on the lock on which it is allowed, or, where it yields and all its causes
+    /// stand, the edge of the first of them.
+    fn step(&self, t: Tid) -> Option<Link>
         requires { t.0 < self.now.threads }
-        ensures value { result ≡ step self.now.threads self.now.locks (past self.now.entries) t.0 }
-        ensures thread { IfSome result (λ e. e.t.0 < self.now.threads) }
+        ensures value { result
+            ≡ option_map link_of
+            (step self.now.threads self.now.locks (past self.now.entries) t.0) }
+        ensures thread { IfSome result (λ x. x.t.0 < self.now.threads) }
     {
-        if let Some(e) = self.waits_for(t) {
-            return Some(e);
+        if let Some(next) = self.wait_link(t) {
+            return Some(next);
         }
         let cause = self.standing(t)?;
-        self.edge_born(cause)
+        self.link_born(cause)
     }
 
     /// The edge with a birth, of those that a trail goes along.
