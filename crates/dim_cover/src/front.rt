@@ -1,9 +1,20 @@
 //! Stacks by their innermost frames, at which most stacks differ.
-ghost use Rattle.std.specs.Prelude.{◌≡◌, ◌≤◌, take};
+ghost use Rattle.std.specs.Prelude.{◌≡◌, ◌<◌, ◌≤◌, take};
 ghost use Rattle.std.specs.Cmp.Lexicographic.{pointwise};
 ghost use Rattle.dim_stack.specs.Order.{frame_eq};
+ghost use Rattle.dim_cover.specs.Index.{front};
 
+use crate::shelf::mixed;
 use dim_stack::Stack;
+
+/// The bucket of the innermost frame of a stack.
+pub fn front_of(stack: &Stack) -> usize
+    ensures bucket { result ≡ front stack.now }
+    ensures low { result < 4096 }
+{
+    let _some = stack.len(); // for the contract: a stack has a frame
+    (mixed(0, &stack.frame(0)) % 4096) as usize
+}
 
 /// Whether the innermost frames of two stacks are equal.
 pub fn same_front(a: &Stack, b: &Stack) -> bool

@@ -12,8 +12,8 @@ returns-then-index-eq0 c = λ t.
     let s = c.args.stack.now in
     let new : Edge = c.args.new_edge.now in
     let none : fronted (front s) es ≡ 0 =
-    ap (λ b. fronted b es) (sym c.bucket_of.ensures.bucket)
-    ∙ sym (count_at i.fronts.items es c.self.invariant.2 c.bucket_of.result c.bucket_of.ensures.low c.index.result.now c.index.ensures)
+    ap (λ b. fronted b es) (sym c.front_of.ensures.bucket)
+    ∙ sym (count_at i.fronts.items es c.self.invariant.2 c.front_of.result c.front_of.ensures.low c.index.result.now c.index.ensures)
     ∙ c.if-index-eq0.true in
     ap (λ (x : Edges). agreeing c.args.depth s (x.edges ++ new ∷ [])) (sym c.self.view_is)
     ∙ none_agree c.args.depth s es new c.requires.low none (sym c.agree.ensures ∙ not-true c.agree.result t)
