@@ -79,7 +79,7 @@ cases_at b c = elim (cases_lt b c) [
 ]
 
 -- a stack agrees with no edge of another bucket
-other_front : (d : ℕ) (s : List Frame) (e : Edge) → 1 ≤ d → (front e.stack ≡ front s → ⊥) → agrees d s e ≡ false
+pub other_front : (d : ℕ) (s : List Frame) (e : Edge) → 1 ≤ d → (front e.stack ≡ front s → ⊥) → agrees d s e ≡ false
 other_front d s e low n = elim (cases_Bool (agrees d s e)) [
   | inl a ↦
       let deep : d ≡ d - 1 + 1 = omega (arith, low) in
