@@ -1,9 +1,9 @@
 //! The instruction words.
 ghost use Rattle.std.specs.Prelude.{◌≡◌};
-ghost use Rattle.std.specs.Str.{bytes_eq};
 ghost use Rattle.dim_asm.specs.Table.{mnemonic_of, most_of, counted};
 
 use crate::Op;
+use dim_text::is_word;
 
 /// An instruction whose argument is a number.
 #[derive(Clone, Copy, Debug, PartialEq, Eq)]
@@ -85,19 +85,12 @@ const ROWS: [(&[u8], Mnemonic); 21] = [
     (b"HALT", Mnemonic::Bare(Op::Halt)),
 ];
 
-// Whether two words are equal. Most differ in length, which is seen at once.
-fn is_same(a: &[u8], b: &[u8]) -> bool
-    ensures { result ≡ bytes_eq a.now b.now }
-{
-    a.len() == b.len() && a == b
-}
-
 /// What a word makes, if it's an instruction word.
 pub fn mnemonic_of(word: &[u8]) -> Option<Mnemonic>
     ensures { result ≡ mnemonic_of word.now }
 {
     for row in &ROWS {
-        if is_same(word, row.0) {
+        if is_word(word, row.0) {
             return Some(row.1);
         }
     }

@@ -13,7 +13,7 @@ pub use names::{is_name, name};
 pub use numbers::{is_number, number, number_from, number64, signed};
 pub use parts::{Parts, frame_sides};
 pub use stop::Stop;
-pub use words::{one_word, two_words, unless};
+pub use words::{is_word, one_word, two_words, unless};
 
 #[cfg(test)]
 mod tests;

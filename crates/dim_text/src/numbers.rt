@@ -1,5 +1,5 @@
 //! Numbers in decimal digits. Each number has exactly one spelling.
-ghost use Rattle.std.specs.Prelude.{◌≡◌, ◌≤◌, ◌<◌, ◌^◌, ◌-◌, ℕ, ℤ, true, if◌then◌else◌, nat_le, option_and_then, Some, None, IfSome, IfNone, FitsSigned, pos};
+ghost use Rattle.std.specs.Prelude.{◌≡◌, ◌≤◌, ◌<◌, ◌^◌, ◌-◌, ◌+◌, ◌*◌, ℕ, ℤ, true, if◌then◌else◌, nat_le, option_and_then, Some, None, IfSome, IfNone, FitsSigned, pos};
 ghost use Rattle.std.specs.Int.{w64};
 ghost use Rattle.std.specs.Option.{option_map};
 ghost use Rattle.std.specs.Fmt.{decimal, signed_decimal};
@@ -19,20 +19,28 @@ pub fn is_number(word: &[u8]) -> bool
     !word.is_empty() && !padded && are_digits(word)
 }
 
+// A number with one digit more, where it is at most max.
+fn with_digit(value: u64, digit: u8, max: u64) -> Option<u64>
+    requires low { 48 ≤ digit }
+    requires high { digit ≤ 57 }
+    ensures { result
+        ≡ (if nat_le (10 * value + (digit - 48)) max then Some (10 * value + (digit - 48)) else None) }
+{
+    let next = value.checked_mul(10)?.checked_add(u64::from(digit - b'0'))?;
+    if next <= max { Some(next) } else { None }
+}
+
 // The value of digits, where it is at most max.
 fn value(digits: &[u8], max: u64) -> Option<u64>
     requires { are_digits digits.now ≡ true }
     ensures { result
         ≡ (if nat_le (value_of digits.now) max then Some (value_of digits.now) else None) }
 {
-    let mut value = 0u128;
+    let mut value = 0;
     for digit in digits {
-        value = value * 10 + u128::from(*digit - b'0');
-        if value > u128::from(max) {
-            return None;
-        }
+        value = with_digit(value, *digit, max)?;
     }
-    Some(value as u64)
+    Some(value)
 }
 
 #[tactic(auto, unfolding(crate::specs::Numerals::number_of))]

@@ -1,5 +1,6 @@
 //! The words of a line, where a fault has a kind of the format's own.
 ghost use Rattle.std.specs.Prelude.{◌≡◌, Some};
+ghost use Rattle.std.specs.Str.{bytes_eq};
 ghost use Rattle.dim_text.specs.Reading.{Gives};
 ghost use Rattle.dim_text.specs.Words.{one_word, two_words, unless};
 
@@ -10,6 +11,13 @@ pub fn unless<K: Copy>(fault: bool, kind: K) -> Result<(), K>
     ensures { result ≡ unless fault kind }
 {
     if fault { Err(kind) } else { Ok(()) }
+}
+
+/// Whether two words are equal. Most differ in length, which is seen at once.
+pub fn is_word(a: &[u8], b: &[u8]) -> bool
+    ensures { result ≡ bytes_eq a.now b.now }
+{
+    a.len() == b.len() && a == b
 }
 
 /// The one word that is left. Where none or more are left, or it is empty, it fails with this kind.

@@ -8,4 +8,4 @@ unfolding mnemonic_of
 loop-row-init c = refl
 
 pub loop-row-preserved : goal.loop-row-preserved
-loop-row-preserved c = skipped c.args.word.now _ c.loop-row.row-index _ c.loop-row-test.true (sym c.is_same.ensures ∙ c.if-is_same.false) ∙ c.loop-row.invariant
+loop-row-preserved c = skipped c.args.word.now _ c.loop-row.row-index _ c.loop-row-test.true (sym c.is_word.ensures ∙ c.if-is_word.false) ∙ c.loop-row.invariant
