@@ -1,5 +1,5 @@
 //! Entries by reference.
-ghost use Rattle.std.specs.Prelude.{◌≡◌};
+ghost use Rattle.std.specs.Prelude.{◌≡◌, ◌≤◌, length};
 ghost use Rattle.dim_rag.specs.declared.entry.Entry.TheVariants.{Miss};
 ghost use Rattle.dim_rag.specs.declared.entry.MissWhy.TheVariants.{Avoid};
 ghost use Rattle.dim_rag.specs.Shown.{HasStack, shown};
@@ -68,13 +68,14 @@ pub enum EntryRef<'a> {
 impl<'a> EntryRef<'a> {
     /// An entry by reference.
     pub fn of(e: &'a Entry) -> EntryRef<'a>
-        ensures { shown result ≡ e.now }
+        ensures entry { shown result ≡ e.now }
+        ensures stack { HasStack result }
     {
         match e {
             Entry::Go { t, l, stack } => EntryRef::Go {
                 t: *t,
                 l: *l,
-                stack: stack.as_slice(),
+                stack: frames_of(stack),
             },
             Entry::Yield {
                 t,
@@ -85,7 +86,7 @@ impl<'a> EntryRef<'a> {
             } => EntryRef::Yield {
                 t: *t,
                 l: *l,
-                stack: stack.as_slice(),
+                stack: frames_of(stack),
                 sig: *sig,
                 births,
             },
@@ -94,7 +95,7 @@ impl<'a> EntryRef<'a> {
             Entry::Took { t, l, stack } => EntryRef::Took {
                 t: *t,
                 l: *l,
-                stack: stack.as_slice(),
+                stack: frames_of(stack),
             },
             Entry::Miss { t, l, stack, why } => EntryRef::of_miss(*t, *l, stack, why),
             Entry::End { t, why } => EntryRef::End { t: *t, why: *why },
@@ -105,9 +106,10 @@ impl<'a> EntryRef<'a> {
 
     /// A Miss by reference.
     fn of_miss(t: Tid, l: Lid, stack: &'a Stack, why: &'a MissWhy) -> EntryRef<'a>
-        ensures { shown result ≡ Miss t l stack.now why.now }
+        ensures entry { shown result ≡ Miss t l stack.now why.now }
+        ensures stack { HasStack result }
     {
-        let stack = stack.as_slice();
+        let stack = frames_of(stack);
         match why {
             MissWhy::Busy { holder } => EntryRef::MissBusy {
                 t,
@@ -191,4 +193,14 @@ fn avoided(sig: u32, births: Births) -> MissWhy
     ensures { result ≡ Avoid record { sig = sig; births = births } }
 {
     MissWhy::Avoid(Named { sig, births })
+}
+
+/// The frames of a stack, of which there are 1 to 32.
+fn frames_of(stack: &Stack) -> &[Frame]
+    ensures value { result.now ≡ stack.now }
+    ensures some { 1 ≤ length result.now }
+    ensures few { length result.now ≤ 32 }
+{
+    let _len = stack.len(); // for the contract: how many there are
+    stack.as_slice()
 }

@@ -80,6 +80,20 @@ impl Journal {
             ≡ record self.old
             { entries = self.old.entries ++ e.now ∷ []; spare = self.old.spare - 1 } }
     {
+        self.push_ref(&EntryRef::of(e));
+    }
+
+    /// Appends an entry that is given by reference, in the room that there is. No entry is made.
+    ///
+    /// It is inlined, so that the kind of an entry is asked for once where it is known.
+    #[inline(always)]
+    pub fn push_ref(&mut self, e: &EntryRef<'_>)
+        requires room { 1 ≤ self.old.spare }
+        requires stack { HasStack e.now }
+        ensures { self.new
+            ≡ record self.old
+            { entries = self.old.entries ++ shown e.now ∷ []; spare = self.old.spare - 1 } }
+    {
         let brief = brief_of(&mut self.frames, &mut self.births, e);
         self.briefs.push_reserved(brief);
         self.spare -= 1;

@@ -4,14 +4,14 @@ ghost use Rattle.dim_stack.specs.declared.Frame.{Frame};
 ghost use Rattle.dim_rag.specs.Shown.{HasStack, shown};
 ghost use Rattle.dim_rag.specs.Yielded.{yielded};
 ghost use Rattle.dim_rag.specs.Span.{IsIn};
-ghost use Rattle.dim_rag.specs.Journal.{IsWithin, stack_of, births_of, births_of_miss, brief_of, brief_of_miss, entry_of};
+ghost use Rattle.dim_rag.specs.Journal.{IsWithin, stack_of, births_of, brief_of, entry_of};
 
 use crate::births::Births;
-use crate::entry::{Entry, MissWhy, Why};
+use crate::entry::{Entry, Why};
 use crate::entry_ref::EntryRef;
 use crate::journal::span::Span;
 use dim_base::{Lid, Tid};
-use dim_stack::{Frame, Stack};
+use dim_stack::Frame;
 use std::mem::size_of;
 
 /// An entry in brief. Its stack is a span of a list of frames, and its births are the number of an item of a list of these.
@@ -72,16 +72,18 @@ pub enum Brief {
 const _: () = prove!(size_of::<Brief>() <= 28);
 
 /// Puts the frames of a stack behind the others, in the room that is there.
-fn keep_stack(frames: &mut Vec<Frame>, stack: &Stack) -> Span
+fn keep_stack(frames: &mut Vec<Frame>, stack: &[Frame]) -> Span
     requires room { vec_len frames.old + 32 ≤ vec_capacity frames.old }
     requires few { vec_len frames.old < 2 ^ 48 }
+    requires some { 1 ≤ length stack.now }
+    requires short { length stack.now ≤ 32 }
     ensures items { frames.new.items ≡ frames.old.items ++ stack.now }
     ensures capacity { vec_capacity frames.old ≤ vec_capacity frames.new }
     ensures span { result ≡ record { start = length frames.old.items; len = length stack.now } }
     ensures within { IsIn (length frames.new.items) result }
 {
-    let span = Span::new(frames.len(), stack.len());
-    let _kept = frames.extend_from_slice(stack.as_slice());
+    let span = Span::new(frames.len(), stack.len() as u32);
+    let _kept = frames.extend_from_slice(stack);
     span
 }
 
@@ -99,27 +101,32 @@ fn keep_births(all: &mut Vec<Births>, births: &Births) -> u32
 }
 
 /// An entry in brief. Its frames and its births are put behind the others, in the room that is there.
+///
+/// It is inlined, so that the kind of an entry is asked for once where it is known.
+#[inline(always)]
 #[tactic(auto, using(crate::proofs::Briefs::none_more))]
-pub fn brief_of(frames: &mut Vec<Frame>, births: &mut Vec<Births>, e: &Entry) -> Brief
+pub fn brief_of(frames: &mut Vec<Frame>, births: &mut Vec<Births>, e: &EntryRef<'_>) -> Brief
+    requires stack { HasStack e.now }
     requires frames_room { vec_len frames.old + 32 ≤ vec_capacity frames.old }
     requires births_room { vec_len births.old < vec_capacity births.old }
     requires few_frames { vec_len frames.old < 2 ^ 48 }
     requires few { vec_len births.old < 2 ^ 32 }
-    ensures frames { frames.new.items ≡ frames.old.items ++ stack_of e.now }
-    ensures births { births.new.items ≡ births.old.items ++ births_of e.now }
+    ensures frames { frames.new.items ≡ frames.old.items ++ stack_of (shown e.now) }
+    ensures births { births.new.items ≡ births.old.items ++ births_of (shown e.now) }
     ensures frames_capacity { vec_capacity frames.old ≤ vec_capacity frames.new }
     ensures births_capacity { vec_capacity births.old ≤ vec_capacity births.new }
-    ensures value { result ≡ brief_of (length frames.old.items) (length births.old.items) e.now }
+    ensures value { result
+        ≡ brief_of (length frames.old.items) (length births.old.items) (shown e.now) }
     ensures within { IsWithin (length frames.new.items) (length births.new.items) result }
-    ensures short { length (stack_of e.now) ≤ 32 }
+    ensures short { length (stack_of (shown e.now)) ≤ 32 }
 {
     match e {
-        Entry::Go { t, l, stack } => Brief::Went {
+        EntryRef::Go { t, l, stack } => Brief::Went {
             t: *t,
             l: *l,
             stack: keep_stack(frames, stack),
         },
-        Entry::Yield {
+        EntryRef::Yield {
             t,
             l,
             stack,
@@ -132,48 +139,41 @@ pub fn brief_of(frames: &mut Vec<Frame>, births: &mut Vec<Births>, e: &Entry) ->
             sig: *sig,
             births: keep_births(births, causes),
         },
-        Entry::Got { t, l } => Brief::Obtained { t: *t, l: *l },
-        Entry::Free { t, l } => Brief::Freed { t: *t, l: *l },
-        Entry::Took { t, l, stack } => Brief::Took {
+        EntryRef::Got { t, l } => Brief::Obtained { t: *t, l: *l },
+        EntryRef::Free { t, l } => Brief::Freed { t: *t, l: *l },
+        EntryRef::Took { t, l, stack } => Brief::Took {
             t: *t,
             l: *l,
             stack: keep_stack(frames, stack),
         },
-        Entry::Miss { t, l, stack, why } => {
-            let stack = keep_stack(frames, stack);
-            brief_of_miss(births, *t, *l, stack, why)
-        }
-        Entry::End { t, why } => Brief::Ended { t: *t, why: *why },
-        Entry::Break { set, t } => Brief::Broken { set: *set, t: *t },
-        Entry::Learn { births: cycle } => Brief::Learnt {
-            births: keep_births(births, cycle),
-        },
-    }
-}
-
-/// A miss in brief. Its births, if it has any, are put behind the others, in the room that is there.
-#[tactic(auto, using(crate::proofs::Briefs::none_more))]
-fn brief_of_miss(births: &mut Vec<Births>, t: Tid, l: Lid, stack: Span, why: &MissWhy) -> Brief
-    requires births_room { vec_len births.old < vec_capacity births.old }
-    requires few { vec_len births.old < 2 ^ 32 }
-    ensures births { births.new.items ≡ births.old.items ++ births_of_miss why.now }
-    ensures births_capacity { vec_capacity births.old ≤ vec_capacity births.new }
-    ensures value { result ≡ brief_of_miss t l stack (length births.old.items) why.now }
-    ensures within { (n : ℕ) → IsIn n stack → IsWithin n (length births.new.items) result }
-{
-    match why {
-        MissWhy::Busy { holder } => Brief::MissedBusy {
+        EntryRef::MissBusy {
             t,
             l,
             stack,
+            holder,
+        } => Brief::MissedBusy {
+            t: *t,
+            l: *l,
+            stack: keep_stack(frames, stack),
             holder: *holder,
         },
-        MissWhy::Avoid(named) => Brief::MissedAvoid {
+        EntryRef::MissAvoid {
             t,
             l,
             stack,
-            sig: named.sig,
-            births: keep_births(births, &named.births),
+            sig,
+            births: causes,
+        } => Brief::MissedAvoid {
+            t: *t,
+            l: *l,
+            stack: keep_stack(frames, stack),
+            sig: *sig,
+            births: keep_births(births, causes),
+        },
+        EntryRef::End { t, why } => Brief::Ended { t: *t, why: *why },
+        EntryRef::Break { set, t } => Brief::Broken { set: *set, t: *t },
+        EntryRef::Learn { births: cycle } => Brief::Learnt {
+            births: keep_births(births, cycle),
         },
     }
 }

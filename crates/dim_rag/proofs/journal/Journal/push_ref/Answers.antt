@@ -2,8 +2,9 @@ use Rattle.std.proofs.Common.{◌-◌, ap}
 use Rattle.std.specs.Prelude.{List, ℕ}
 use Rattle.dim_rag.specs.declared.entry.Entry.{Entry}
 use Rattle.dim_rag.specs.Journal.{Recorded}
+use Rattle.dim_rag.specs.Shown.{shown}
 use Rattle.dim_rag.proofs.Briefs.{entries_more, journal_more}
-use Rattle.dim_rag.proofs.journal.Journal.push.Goals as goal
+use Rattle.dim_rag.proofs.journal.Journal.push_ref.Goals as goal
 
 abbrev recorded : List Entry → ℕ → Recorded
 recorded es n = record { entries = es; spare = n }
@@ -12,7 +13,7 @@ recorded es n = record { entries = es; spare = n }
 pub invariant_of-self : goal.invariant_of-self
 invariant_of-self c =
     rw (c.push_reserved.ensures.items, c.push_reserved.ensures.capacity, c.brief_of-brief.ensures.frames, c.brief_of-brief.ensures.births)
-    (journal_more _ _ _ _ _ _ _ c.args.e.now c.brief_of-brief.result _ _ c.self.invariant (rw (← c.self.view_is) at c.requires)
+    (journal_more _ _ _ _ _ _ _ (shown c.args.e.now) c.brief_of-brief.result _ _ c.self.invariant (rw (← c.self.view_is) at c.requires.room)
     c.brief_of-brief.ensures.short c.brief_of-brief.ensures.frames_capacity c.brief_of-brief.ensures.births_capacity
     (rw (c.brief_of-brief.ensures.frames, c.brief_of-brief.ensures.births) at c.brief_of-brief.ensures.within))
 
@@ -22,4 +23,4 @@ returns c =
     rw (← c.self.view_is)
     (ap (λ (es : List Entry). recorded es (c.self.inside.spare - 1))
     (rw (c.push_reserved.ensures.items, c.brief_of-brief.ensures.frames, c.brief_of-brief.ensures.births, c.brief_of-brief.ensures.value)
-    (entries_more c.self.inside.frames.items c.self.inside.births.items c.self.inside.briefs.items c.args.e.now c.self.invariant.within)))
+    (entries_more c.self.inside.frames.items c.self.inside.births.items c.self.inside.briefs.items (shown c.args.e.now) c.self.invariant.within)))
