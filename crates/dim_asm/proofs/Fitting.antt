@@ -18,7 +18,7 @@ use Rattle.dim_asm.specs.Grammar.{may_follow, IsDraft, HasPlace, IsOpen, IsStart
 use Rattle.dim_asm.specs.Reader.{HasRoom}
 use Rattle.dim_asm.proofs.SourceLemmas.{names-with_draft, draft_count-with_draft, draft_count-cons}
 use Rattle.dim_asm.proofs.Judgements.{Placed, judged_placed}
-use Rattle.dim_text.proofs.ReadingLemmas.{bind_ok}
+use Rattle.dim_text.proofs.Exports.{bind_ok}
 
 -- ---- names
 pub differ : (a b : List ℕ) → bytes_eq a b ≡ false → bytes_eq b a ≡ false

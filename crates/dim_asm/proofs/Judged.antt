@@ -11,9 +11,7 @@ use Rattle.std.proofs.lemmas.Bool.Decides.{nat_tests}
 use Rattle.std.proofs.lemmas.List.Elements.{All-cons, All-append, All-from_recursion}
 use Rattle.dim_text.specs.Cuts.{words_of, line_of, HasNo}
 use Rattle.dim_text.specs.Naming.{name_of, is_name_byte, IsName}
-use Rattle.dim_text.proofs.Cutting.{words_of-line_of}
-use Rattle.dim_text.proofs.Digits.{number_of-decimal, signed_of-signed_decimal, HasNo-decimal}
-use Rattle.dim_text.proofs.NameLemmas.{HasNo-name}
+use Rattle.dim_text.proofs.Exports.{words_of-line_of, number_of-decimal, signed_of-signed_decimal, HasNo-decimal, HasNo-name}
 use Rattle.dim_text.specs.Words.{filled}
 use Rattle.dim_asm.specs.declared.fault.AsmKind.{AsmKind}
 use Rattle.dim_asm.specs.declared.fault.AsmKind.TheVariants.{Shape}

@@ -13,11 +13,8 @@ use Rattle.dim_text.specs.Cuts.{words_of, line_of}
 use Rattle.dim_text.specs.Numerals.{number_of, signed_of, below_zero}
 use Rattle.dim_text.specs.Naming.{name_of, is_name, IsName}
 use Rattle.dim_text.specs.Reading.{◌>>=◌, or_else}
-use Rattle.dim_text.proofs.Cutting.{line_of-words_of}
-use Rattle.dim_text.proofs.Digits.{number_of-Some, signed_of-Some}
-use Rattle.dim_text.proofs.ReadingLemmas.{bind_ok, or_else_ok}
+use Rattle.dim_text.proofs.Exports.{line_of-words_of, number_of-Some, signed_of-Some, bind_ok, or_else_ok, unless_ok, chosen, one_word_ok, two_words_ok}
 use Rattle.dim_text.specs.Words.{unless, one_word, two_words}
-use Rattle.dim_text.proofs.WordLemmas.{unless_ok, chosen, one_word_ok, two_words_ok}
 use Rattle.dim_asm.specs.declared.op.Op.TheVariants as op
 use Rattle.dim_asm.specs.declared.fault.AsmKind.TheVariants.{Word, Number, Name, Double, Shape, Limit}
 use Rattle.dim_asm.specs.declared.mnemonic.Counting.{Counting}

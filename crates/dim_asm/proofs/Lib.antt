@@ -1,16 +1,17 @@
-pub mod SymbolLemmas
-pub mod TableLemmas
-pub mod SourceLemmas
-pub mod LinkLemmas
-pub mod Linked
-pub mod Judgements
-pub mod Fitting
-pub mod Endings
-pub mod BoundLemmas
-pub mod Printed
-pub mod Judged
-pub mod Sources
-pub mod Naming
-pub mod Unlinked
-pub mod Texts
-pub mod FirstLine
+mod SymbolLemmas
+mod TableLemmas
+mod SourceLemmas
+mod LinkLemmas
+mod Linked
+mod Judgements
+mod Fitting
+mod Endings
+mod BoundLemmas
+mod Printed
+mod Judged
+mod Sources
+mod Naming
+mod Unlinked
+mod Texts
+mod FirstLine
+pub mod Exports

@@ -1,7 +1,7 @@
 -- Line by line, from the first fault on.
 use Rattle.std.proofs.Common.{◌≡◌, ◌+◌, ℕ, List, [], ◌∷◌, ◌++◌, length, Option, Result, Ok, Err, refl, sym, ap, ◌∙◌, append_assoc, append-nil}
 use Rattle.dim_text.specs.Reading.{◌>>=◌, in_line, Fails, Gives}
-use Rattle.dim_text.proofs.ReadingLemmas.{Fails-bind}
+use Rattle.dim_text.proofs.Exports.{Fails-bind}
 use Rattle.dim_asm.specs.declared.fault.AsmKind.{AsmKind}
 use Rattle.dim_asm.specs.declared.fault.AsmFault.{AsmFault}
 use Rattle.dim_asm.specs.Faults.{fault}

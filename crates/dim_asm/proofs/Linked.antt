@@ -9,9 +9,8 @@ use Rattle.std.proofs.lemmas.List.Elements.{All-from_recursion}
 use Rattle.std.proofs.lemmas.List.Quantifiers.{position-Some}
 use Rattle.std.proofs.lemmas.List.Sums.{sum_by-cons}
 use Rattle.dim_text.specs.Reading.{◌>>=◌, or_else, in_line}
-use Rattle.dim_text.proofs.ReadingLemmas.{bind_ok, or_else_ok, in_line_ok}
+use Rattle.dim_text.proofs.Exports.{bind_ok, or_else_ok, in_line_ok, unless_ok}
 use Rattle.dim_text.specs.Words.{unless}
-use Rattle.dim_text.proofs.WordLemmas.{unless_ok}
 use Rattle.dim_asm.specs.declared.fault.AsmKind.{AsmKind}
 use Rattle.dim_asm.specs.declared.fault.AsmKind.TheVariants.{Unknown, Shape}
 use Rattle.dim_asm.specs.declared.op.Op.{Op}

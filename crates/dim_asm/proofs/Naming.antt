@@ -10,7 +10,7 @@ use Rattle.std.proofs.lemmas.List.Quantifiers.{position-Some}
 use Rattle.std.proofs.lemmas.Slice.Eq.{bytes_eq-Decides}
 use Rattle.dim_text.specs.Naming.{IsName}
 use Rattle.dim_text.specs.Reading.{◌>>=◌, or_else, in_line}
-use Rattle.dim_text.proofs.ReadingLemmas.{bind_ok, or_else_ok, in_line_ok}
+use Rattle.dim_text.proofs.Exports.{bind_ok, or_else_ok, in_line_ok}
 use Rattle.dim_text.specs.Words.{unless}
 use Rattle.dim_stack.specs.Names.{table_of}
 use Rattle.dim_asm.specs.declared.fault.AsmKind.{AsmKind}

@@ -7,7 +7,7 @@ use Rattle.std.proofs.lemmas.List.Sums.{sum_by-append}
 use Rattle.dim_text.specs.Cuts.{lines_of, ended}
 use Rattle.dim_text.specs.Naming.{IsName}
 use Rattle.dim_text.specs.Reading.{◌>>=◌, read_from}
-use Rattle.dim_text.proofs.ReadingLemmas.{read_from-line, Spells, read_from-spelled}
+use Rattle.dim_text.proofs.Exports.{read_from-line, Spells, read_from-spelled}
 use Rattle.dim_asm.specs.declared.fault.AsmFault.{AsmFault}
 use Rattle.dim_asm.specs.declared.reader.Stage.{Stage}
 use Rattle.dim_asm.specs.declared.reader.Stage.TheVariants as stage

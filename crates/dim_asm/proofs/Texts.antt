@@ -1,7 +1,7 @@
 -- Programs and their texts.
 use Rattle.std.proofs.Common.{◌≡◌, ℕ, List, Ok, [], sym, ap, ◌∙◌, subst}
 use Rattle.dim_text.specs.Reading.{◌>>=◌}
-use Rattle.dim_text.proofs.ReadingLemmas.{bind_ok}
+use Rattle.dim_text.proofs.Exports.{bind_ok}
 use Rattle.dim_asm.specs.Code.{Code}
 use Rattle.dim_asm.specs.Source.{Source}
 use Rattle.dim_asm.specs.Judging.{source_of}

@@ -14,7 +14,7 @@ use Rattle.dim_asm.specs.declared.op.Op.TheVariants as op
 use Rattle.dim_asm.specs.Source.{Statement, LockLine, FuncLine, OpLine, EndLine, Head, Close, Ready, DraftFunction, Source}
 use Rattle.dim_asm.specs.Spelling.{spelled, function_lines, text_of, source_text}
 use Rattle.dim_asm.specs.Printing.{thread_line}
-use Rattle.dim_asm.proofs.Printed.{text-append}
+use Rattle.dim_asm.proofs.Exports.{text-append}
 use Rattle.dim_run.specs.Schedule.{word, after, generator}
 use Rattle.dim_cli.specs.Generated.{from, numbered, lock_name}
 use Rattle.dim_cli.specs.Drafted.{called, caller_draft, started, generated_source}

@@ -19,7 +19,7 @@ use Rattle.dim_asm.specs.Linking.{Tables}
 use Rattle.dim_asm.specs.Printing.{names_in, name_at, named, named_function, named_start, program_text, HasWidth, IsPrintable}
 use Rattle.dim_asm.specs.Source.{Source, DraftFunction, DraftStart, Ready, Refers}
 use Rattle.dim_asm.specs.Spelling.{source_text}
-use Rattle.dim_asm.proofs.Texts.{text_again}
+use Rattle.dim_asm.proofs.Exports.{text_again}
 use Rattle.dim_run.specs.Schedule.{generator, after, word, word_at}
 use Rattle.dim_cli.specs.Generated.{from, numbered, lock_name, first_lock, second_lock, taking, looping, taker, caller, start, generated_program, generated_text, generated_inputs, generated_report}
 use Rattle.dim_cli.specs.Drafted.{taker_draft, caller_draft, taker_of, caller_of, started, generated_source}

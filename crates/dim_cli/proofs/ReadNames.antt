@@ -3,7 +3,7 @@ use Rattle.std.proofs.Common.{◌≡◌, ◌≤◌, ◌*◌, ℕ, List, [], ◌�
 use Rattle.std.specs.List.{AllByRecursion, flat_map}
 use Rattle.std.proofs.lemmas.List.{length-append, length-map}
 use Rattle.dim_stack.specs.Names.{table_of}
-use Rattle.dim_asm.proofs.BoundLemmas.{length-table_of}
+use Rattle.dim_asm.proofs.Exports.{length-table_of}
 use Rattle.dim_history_file.specs.declared.history.History.{History}
 use Rattle.dim_history_file.specs.Grammar.{AreNear, IsStack, IsSignature, IsHistory}
 use Rattle.dim_history_file.specs.Seen.{value_of}

@@ -5,7 +5,7 @@ use Rattle.std.proofs.lemmas.Bool.{cases_Bool, false≢true}
 use Rattle.dim_stack.specs.declared.Frame.{Frame}
 use Rattle.dim_rag.specs.declared.entry.Edge.{Edge}
 use Rattle.dim_rag.specs.Born.{In}
-use Rattle.dim_rag.proofs.Among.{in_right, in_parts}
+use Rattle.dim_rag.proofs.Exports.{in_right, in_parts}
 use Rattle.dim_cover.specs.Cover.{agrees}
 use Rattle.dim_cover.specs.Index.{AreDistinct, AreLinked, AreTurned, IsLink, common, edge_in, link, next_of, on_at, turned}
 use Rattle.dim_cover.proofs.Groups.{same_frames, frames_same}

@@ -8,8 +8,7 @@ use Rattle.dim_rag.specs.declared.entry.Mode.TheVariants.{Running, Allowed, Yiel
 use Rattle.dim_rag.specs.History.{mode}
 use Rattle.dim_rag.specs.Born.{In, IsEdge}
 use Rattle.dim_rag.specs.Waits.{waits, waits_by}
-use Rattle.dim_rag.proofs.EdgeBorn.{edge_found}
-use Rattle.dim_rag.proofs.Starving.{cycle_edges}
+use Rattle.dim_rag.proofs.Exports.{edge_found, cycle_edges}
 use Rattle.dim_rag.specs.Steps.{Follow, IsCycle, births}
 use Rattle.dim_signature.specs.Sig.{fresh}
 use Rattle.dim_signature.specs.Sorted.{sorted}

@@ -23,7 +23,7 @@ use Rattle.dim_rag.specs.Edges.{standing}
 use Rattle.dim_rag.specs.Asks.{may_ask}
 use Rattle.dim_rag.specs.Born.{edge_after}
 use Rattle.dim_rag.specs.Fits.{Fits, AreInRange, FitsAfter, IsInRange}
-use Rattle.dim_rag.proofs.Choices.{choice_law}
+use Rattle.dim_rag.proofs.Exports.{choice_law}
 use Rattle.dim_signature.specs.Sig.{Sig}
 use Rattle.dim_cover.specs.Named.{named}
 use Rattle.dim_gate.specs.Gate.{Constants}

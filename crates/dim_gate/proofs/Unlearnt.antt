@@ -11,11 +11,11 @@ use Rattle.dim_rag.specs.declared.entry.Entry.{Entry}
 use Rattle.dim_rag.specs.declared.entry.Entry.TheVariants.{Learn}
 use Rattle.dim_rag.specs.Stuck.{choice}
 use Rattle.dim_rag.specs.Starvation.{starved_from, starved}
-use Rattle.dim_rag.proofs.Learning.{found_same, starved_same}
+use Rattle.dim_rag.proofs.Exports.{found_same, starved_same}
 use Rattle.dim_signature.specs.Sig.{Sig}
 use Rattle.dim_signature.specs.Sorted.{sorted}
 use Rattle.dim_signature.specs.Catalogue.{number_of}
-use Rattle.dim_signature.proofs.Numbers.{found, missing}
+use Rattle.dim_signature.proofs.Exports.{found, missing}
 use Rattle.dim_gate.specs.Known.{Known, knowns, known_sigs, learnt, learnt_sig, stack_of, stacks_of}
 use Rattle.dim_gate.specs.Starved.{is_unlearnt, if_unlearnt, unlearnt}
 

@@ -19,7 +19,7 @@ use Rattle.std.proofs.lemmas.Slice.Eq.{slice_eq-Decides, bytes_eq-Decides}
 use Rattle.dim_stack.specs.declared.Frame.{Frame}
 use Rattle.dim_stack.specs.Names.{AreAscending, IsNamedBy, named_cmp}
 use Rattle.dim_stack.specs.Order.{frame_eq, frame_cmp}
-use Rattle.dim_stack.proofs.NumberLemmas.{order}
+use Rattle.dim_stack.proofs.Exports.{order}
 use Rattle.dim_signature.specs.Sig.{Sig}
 use Rattle.dim_signature.specs.Sorted.{AreSorted, stack_cmp}
 use Rattle.dim_signature.specs.Catalogue.{has_stacks}

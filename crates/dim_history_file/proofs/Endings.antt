@@ -3,7 +3,7 @@ use Rattle.std.proofs.Common.{◌≡◌, ◌≢◌, ◌≤◌, ◌+◌, ℕ, Lis
 use Rattle.std.specs.Prelude.{MatchOption, unwrap_or}
 use Rattle.std.specs.Borrow.{Bor}
 use Rattle.dim_text.specs.Reading.{◌>>=◌, in_line, read_from, Fails, Gives}
-use Rattle.dim_text.proofs.ReadingLemmas.{read_from-last, read_from-none, read_from-step, Fails-bind}
+use Rattle.dim_text.proofs.Exports.{read_from-last, read_from-none, read_from-step, Fails-bind}
 use Rattle.dim_text.specs.Stops.{kind_of}
 use Rattle.dim_history_file.specs.declared.fault.FileKind.{FileKind}
 use Rattle.dim_history_file.specs.declared.fault.FileFault.{FileFault}

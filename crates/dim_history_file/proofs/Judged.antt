@@ -12,10 +12,7 @@ use Rattle.dim_text.specs.Numerals.{number_of, number_from}
 use Rattle.dim_text.specs.Naming.{name_of, is_name, IsName}
 use Rattle.dim_text.specs.Reading.{◌>>=◌, or_else}
 use Rattle.dim_text.specs.Words.{unless, filled, one_word, two_words, has_sides}
-use Rattle.dim_text.proofs.Cutting.{frame_word-sides_of}
-use Rattle.dim_text.proofs.Digits.{number_of-Some}
-use Rattle.dim_text.proofs.ReadingLemmas.{bind_ok, or_else_ok}
-use Rattle.dim_text.proofs.WordLemmas.{chosen, unless_ok, filled_ok, one_word_ok, two_words_ok, number_from_ok}
+use Rattle.dim_text.proofs.Exports.{frame_word-sides_of, number_of-Some, bind_ok, or_else_ok, chosen, unless_ok, filled_ok, one_word_ok, two_words_ok, number_from_ok}
 use Rattle.dim_history_file.specs.declared.fault.FileKind.{FileKind}
 use Rattle.dim_history_file.specs.declared.fault.FileKind.TheVariants.{Line, Name, Number, Count, Limit}
 use Rattle.dim_history_file.specs.declared.opening.Opening.{Opening}

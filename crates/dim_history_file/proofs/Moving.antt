@@ -10,11 +10,8 @@ use Rattle.std.proofs.lemmas.List.Concat.{flat_map-append}
 use Rattle.std.proofs.lemmas.List.Splits.{length-slice_split}
 use Rattle.dim_text.specs.Cuts.{lines_of, words_of, line_of, ended}
 use Rattle.dim_text.specs.Reading.{◌>>=◌, in_line, or_else, read_from}
-use Rattle.dim_text.proofs.Cutting.{line_of-words_of, text_of-lines_of}
-use Rattle.dim_text.proofs.Splitting.{some_part}
-use Rattle.dim_text.proofs.ReadingLemmas.{bind_ok, in_line_ok, or_else_ok}
+use Rattle.dim_text.proofs.Exports.{line_of-words_of, text_of-lines_of, some_part, bind_ok, in_line_ok, or_else_ok, chosen, unless_ok}
 use Rattle.dim_text.specs.Words.{unless}
-use Rattle.dim_text.proofs.WordLemmas.{chosen, unless_ok}
 use Rattle.dim_history_file.specs.declared.fault.FileKind.{FileKind}
 use Rattle.dim_history_file.specs.declared.fault.FileKind.TheVariants.{Head as head_kind, Unsorted}
 use Rattle.dim_history_file.specs.declared.opening.Opening.{Opening}

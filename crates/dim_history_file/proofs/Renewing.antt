@@ -14,7 +14,7 @@ use Rattle.dim_signature.specs.Sig.{Sig}
 use Rattle.dim_signature.specs.Catalogue.{IsCatalogue, has_stacks, number_of}
 use Rattle.dim_signature.specs.Refusal.{refusal_of}
 use Rattle.dim_signature.specs.Order.{no_sig}
-use Rattle.dim_signature.proofs.Numbers.{own}
+use Rattle.dim_signature.proofs.Exports.{own}
 use Rattle.dim_history_file.specs.Value.{NamedSig, named_sig, named, AreNamed, have_stacks}
 use Rattle.dim_history_file.proofs.Comparing.{have_named, any_at}
 

@@ -11,11 +11,11 @@ use Rattle.std.proofs.lemmas.Option.{slice_get_within, get_or_from_slice_get}
 use Rattle.dim_text.specs.Cuts.{ended, line_of}
 use Rattle.dim_stack.specs.declared.Frame.{Frame}
 use Rattle.dim_stack.specs.Names.{IsTable, AreAscending, IsNamedBy, table_of}
-use Rattle.dim_stack.proofs.TableLemmas.{only_table}
+use Rattle.dim_stack.proofs.Exports.{only_table}
 use Rattle.dim_signature.specs.Sig.{Sig, IsSig}
 use Rattle.dim_signature.specs.Sorted.{AreSorted}
 use Rattle.dim_signature.specs.Catalogue.{IsCatalogue, has_stacks}
-use Rattle.dim_signature.proofs.Numbers.{has_stacks-Decides}
+use Rattle.dim_signature.proofs.Exports.{has_stacks-Decides}
 use Rattle.dim_history_file.specs.declared.opening.Opening.{Opening}
 use Rattle.dim_history_file.specs.declared.version.Version.{Version}
 use Rattle.dim_history_file.specs.Value.{NamedFrame, NamedSig, named_frame, named_stack, named_sig, named, AreNamed}

@@ -12,10 +12,7 @@ use Rattle.std.proofs.lemmas.List.Elements.{All-cons, All-append, All-from_recur
 use Rattle.dim_text.specs.Cuts.{lines_of, words_of, line_of, ended, HasNo}
 use Rattle.dim_text.specs.Naming.{name_of, is_name_byte}
 use Rattle.dim_text.specs.Reading.{read_from}
-use Rattle.dim_text.proofs.Cutting.{words_of-line_of, sides_of-frame_word}
-use Rattle.dim_text.proofs.Digits.{number_of-decimal, number_of-Some, HasNo-decimal}
-use Rattle.dim_text.proofs.NameLemmas.{HasNo-name}
-use Rattle.dim_text.proofs.ReadingLemmas.{read_from-line}
+use Rattle.dim_text.proofs.Exports.{words_of-line_of, sides_of-frame_word, number_of-decimal, number_of-Some, HasNo-decimal, HasNo-name, read_from-line}
 use Rattle.dim_text.specs.Words.{filled, has_sides}
 use Rattle.dim_text.specs.Numerals.{number_from, number_of}
 use Rattle.dim_history_file.specs.declared.fault.FileKind.{FileKind}

@@ -9,7 +9,7 @@ use Rattle.std.proofs.lemmas.List.Elements.{All-push}
 use Rattle.std.proofs.lemmas.Option.{slice_get-map, slice_get_within, get_or_from_slice_get}
 use Rattle.dim_text.specs.Reading.{in_line, Fails, Leaves}
 use Rattle.dim_text.specs.Stops.{kind_of}
-use Rattle.dim_text.proofs.WordLemmas.{chosen}
+use Rattle.dim_text.proofs.Exports.{chosen}
 use Rattle.dim_stack.specs.declared.Frame.{Frame}
 use Rattle.dim_stack.specs.Names.{AreAscending, IsNamedBy}
 use Rattle.dim_signature.specs.Sig.{Sig}

@@ -21,14 +21,10 @@ use Rattle.dim_text.specs.Cuts.{lines_of, words_of, sides_of, two_sides, HasNo}
 use Rattle.dim_text.specs.Naming.{is_name, IsName, name_of as name_of_word}
 use Rattle.dim_text.specs.Numerals.{number_of as number_in}
 use Rattle.dim_text.specs.Words.{has_sides}
-use Rattle.dim_text.proofs.Cutting.{lines_of-ended, words_of-line_of, sides_of-frame_word}
-use Rattle.dim_text.proofs.Digits.{HasNo-decimal}
-use Rattle.dim_text.proofs.NameLemmas.{HasNo-name}
-use Rattle.dim_text.proofs.WordLemmas.{chosen}
+use Rattle.dim_text.proofs.Exports.{lines_of-ended, words_of-line_of, sides_of-frame_word, HasNo-decimal, HasNo-name, chosen}
 use Rattle.dim_stack.specs.Names.{HasNamesOf, table_of, number_of, name_of, HasNames}
 use Rattle.dim_stack.specs.declared.Frame.{Frame}
-use Rattle.dim_stack.proofs.TableLemmas.{has-append, has_contains, contains_has, has_own, table-same}
-use Rattle.dim_stack.proofs.NumberLemmas.{missing, found}
+use Rattle.dim_stack.proofs.Exports.{has-append, has_contains, contains_has, has_own, table-same, missing, found}
 use Rattle.dim_history_file.specs.declared.opening.Opening.{Opening}
 use Rattle.dim_history_file.specs.declared.version.Version.{Version}
 use Rattle.dim_history_file.specs.declared.version.Version.TheVariants.{One, Two}

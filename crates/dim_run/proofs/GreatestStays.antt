@@ -4,7 +4,7 @@ use Rattle.std.specs.Prelude.{is_some, if◌then◌else◌}
 use Rattle.dim_rag.specs.declared.entry.Entry.{Entry}
 use Rattle.dim_rag.specs.declared.entry.Entry.TheVariants.{Learn}
 use Rattle.dim_rag.specs.Stuck.{stale}
-use Rattle.dim_rag.proofs.Learning.{stale_same}
+use Rattle.dim_rag.proofs.Exports.{stale_same}
 use Rattle.dim_run.specs.Settle.{stuck_up_to, greatest_stuck}
 
 module _ (b : List ℕ) (h : List Entry) (n m : ℕ) where

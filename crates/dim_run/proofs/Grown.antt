@@ -17,11 +17,11 @@ use Rattle.dim_rag.specs.Yielded.{yielded}
 use Rattle.dim_signature.specs.Sig.{Sig, IsSig, counted}
 use Rattle.dim_signature.specs.Catalogue.{IsCatalogue, changed_at}
 use Rattle.dim_cover.specs.Named.{with_new, IsNamed}
-use Rattle.dim_cover.proofs.Named.{law as named_law}
+use Rattle.dim_cover.proofs.Exports.{named_law}
 use Rattle.dim_gate.specs.Gate.{Gate, Constants, constants, replay}
 use Rattle.dim_gate.specs.Known.{Known, knowns, known_sigs, learnt}
 use Rattle.dim_gate.specs.Legal.{Legal, IsLegalAfter}
-use Rattle.dim_gate.proofs.Vetted.{legal_yield}
+use Rattle.dim_gate.proofs.Exports.{legal_yield}
 use Rattle.dim_run.specs.Grown.{is_yield_of, yields_of, counted_from, grown, GrownLaw, AreNumbered, with_yield}
 
 -- ---- counting

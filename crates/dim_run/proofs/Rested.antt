@@ -9,9 +9,9 @@ use Rattle.dim_rag.specs.Stuck.{is_member, is_yielding, holds_more, choice}
 use Rattle.dim_gate.specs.Gate.{Gate, Constants, constants}
 use Rattle.dim_gate.specs.Known.{known_sigs}
 use Rattle.dim_gate.specs.Legal.{Legal}
-use Rattle.dim_gate.proofs.Unlearnt.{none_chosen}
+use Rattle.dim_gate.proofs.Exports.{none_chosen}
 use Rattle.dim_monitor.specs.Found.{cycles_of}
-use Rattle.dim_monitor.proofs.Waiting.{no_cycles}
+use Rattle.dim_monitor.proofs.Exports.{no_cycles}
 use Rattle.dim_run.specs.Notes.{AreTaken}
 use Rattle.dim_run.specs.declared.notes.Notes.{Notes}
 use Rattle.dim_run.specs.Settle.{IsTwin, IsBehind, first_unknown, unknown_cycle, learn_or, break_of, greatest_stuck, next_break, next_way_out, next_command, settled, SettledLaw}

@@ -12,7 +12,7 @@ use Rattle.dim_rag.specs.Steps.{cycles_below}
 use Rattle.dim_rag.specs.Stuck.{choice}
 use Rattle.dim_rag.specs.Certificate.{cycle_fault}
 use Rattle.dim_rag.specs.Starvation.{starved}
-use Rattle.dim_rag.proofs.Learning.{waits_same, choice_same}
+use Rattle.dim_rag.proofs.Exports.{waits_same, choice_same}
 use Rattle.dim_signature.specs.Catalogue.{number_of}
 use Rattle.dim_gate.specs.Gate.{Constants}
 use Rattle.dim_gate.specs.Known.{known_sigs, stacks_of}
@@ -21,9 +21,7 @@ use Rattle.dim_gate.specs.Answer.{entry_of}
 use Rattle.dim_gate.specs.Legal.{Legal}
 use Rattle.dim_gate.specs.Learns.{learns, is_of_cycle}
 use Rattle.dim_gate.specs.Settled.{is_given, breaks_out, is_followed, are_followed}
-use Rattle.dim_gate.proofs.Followed.{given_self}
-use Rattle.dim_gate.proofs.Made.{made}
-use Rattle.dim_gate.proofs.Unlearnt.{missing_before, learnt_done, is_new, none_chosen}
+use Rattle.dim_gate.proofs.Exports.{given_self, made_so as made, missing_before, learnt_done, is_new, none_chosen}
 use Rattle.dim_monitor.specs.Found.{cycles_of}
 use Rattle.dim_run.specs.Settle.{is_known, first_unknown, unknown_cycle, greatest_stuck, learn_or, break_of, next_break, next_way_out, next_command, unlearnt_starvation, settled}
 use Rattle.dim_run.specs.Living.{by_threads}

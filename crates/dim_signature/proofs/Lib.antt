@@ -1,5 +1,6 @@
-pub mod Kept
-pub mod Numbers
-pub mod Ordered
-pub mod Placed
-pub mod SortLemmas
+mod Kept
+mod Numbers
+mod Ordered
+mod Placed
+mod SortLemmas
+pub mod Exports

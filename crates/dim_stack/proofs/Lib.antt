@@ -1,5 +1,6 @@
 mod Filling
-pub mod Frames
+mod Frames
 mod Ordered
-pub mod NumberLemmas
-pub mod TableLemmas
+mod NumberLemmas
+mod TableLemmas
+pub mod Exports

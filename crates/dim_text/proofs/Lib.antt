@@ -1,7 +1,8 @@
-pub mod Cutting
-pub mod Digits
-pub mod NameLemmas
-pub mod Placing
-pub mod ReadingLemmas
-pub mod Splitting
-pub mod WordLemmas
+mod Cutting
+mod Digits
+mod NameLemmas
+mod Placing
+mod ReadingLemmas
+mod Splitting
+mod WordLemmas
+pub mod Exports

@@ -4,7 +4,7 @@ use Rattle.std.specs.Prelude.{Option, Some, slice_get}
 use Rattle.dim_rag.specs.declared.entry.Entry.{Entry}
 use Rattle.dim_rag.specs.History.{past}
 use Rattle.dim_rag.specs.Tables.{Replay}
-use Rattle.dim_rag.proofs.Steps.{past_more}
+use Rattle.dim_rag.proofs.Exports.{past_more}
 use Rattle.dim_gate.specs.Gate.{Gate, grown, replay}
 use Rattle.dim_gate.specs.Settled.{is_followed, are_followed}
 

@@ -8,7 +8,7 @@ use Rattle.dim_base.specs.declared.Tid.{Tid}
 use Rattle.dim_base.specs.declared.Lid.{Lid}
 use Rattle.dim_stack.specs.declared.Frame.{Frame}
 use Rattle.dim_signature.specs.Sig.{Sig}
-use Rattle.dim_signature.proofs.SortLemmas.{length-sorted}
+use Rattle.dim_signature.proofs.Exports.{length-sorted}
 use Rattle.dim_rag.specs.declared.entry.Edge.{Edge}
 use Rattle.dim_rag.specs.declared.entry.Named.{Named}
 use Rattle.dim_rag.specs.declared.entry.Mode.{Mode}
@@ -27,12 +27,7 @@ use Rattle.dim_rag.specs.Waits.{waits, WaitsLaw}
 use Rattle.dim_rag.specs.Steps.{Step, walk, close, onward, WalkLaw, IsCycle, first_owner, births as births_of_cycle}
 use Rattle.dim_rag.specs.Certificate.{cycle_fault, CertificateLaw}
 use Rattle.dim_rag.specs.Starvation.{step, starvation_fault}
-use Rattle.dim_rag.proofs.Among.{in_parts}
-use Rattle.dim_rag.proofs.Born.{edge_on}
-use Rattle.dim_rag.proofs.Certificates.{holder_hold}
-use Rattle.dim_rag.proofs.EdgeBorn.{found_edge}
-use Rattle.dim_rag.proofs.Starving.{step_law, starvation_law}
-use Rattle.dim_rag.proofs.Ranges.{edge_below}
+use Rattle.dim_rag.proofs.Exports.{in_parts, edge_on, holder_hold, found_edge, step_law, starvation_law, edge_below}
 use Rattle.dim_cover.specs.Cover.{IsCover as Covers}
 use Rattle.dim_cover.specs.Least.{births}
 use Rattle.dim_cover.specs.Named.{with_new, named, IsNamed, NamedLaw}
@@ -40,10 +35,8 @@ use Rattle.dim_gate.specs.Gate.{Constants}
 use Rattle.dim_gate.specs.Known.{Known, knowns, known_sigs, learnt, stack_at, stacks_of}
 use Rattle.dim_gate.specs.Threads.{if_running, again_or, miss_or, avoid_or_took, refused, with}
 use Rattle.dim_gate.specs.Legal.{Legal, IsLegalAfter}
-use Rattle.dim_gate.proofs.Fitting.{in_range}
+use Rattle.dim_gate.proofs.Exports.{in_range, each_born, learn_two, legal_made, legal_yield}
 use Rattle.dim_gate.specs.Starved.{learn_fault}
-use Rattle.dim_gate.proofs.HeldStacks.{each_born, learn_two}
-use Rattle.dim_gate.proofs.Vetted.{legal_made, legal_yield}
 use Rattle.dim_trace.specs.Grammar.{IsBirth, AreBirths, IsCover, IsMissWhy}
 
 -- ---- lists

@@ -27,13 +27,12 @@ use Rattle.dim_rag.specs.Holder.{holder}
 use Rattle.dim_rag.specs.Steps.{AreCycles, CyclesLaw, IsCycle, births as births_of}
 use Rattle.dim_rag.specs.Tables.{thread_of}
 use Rattle.dim_rag.specs.Waits.{WaitsLaw, waits}
-use Rattle.dim_rag.proofs.Same.{Decides-entry}
-use Rattle.dim_rag.proofs.Steps.{past_more}
+use Rattle.dim_rag.proofs.Exports.{Decides-entry, past_more}
 use Rattle.dim_gate.specs.Answer.{entry_of}
 use Rattle.dim_gate.specs.Gate.{Constants}
 use Rattle.dim_gate.specs.Legal.{Legal, IsLegalAfter, caller_of as number_of_caller, command_of}
 use Rattle.dim_gate.specs.Settled.{HasEnded, IsSettled, IsWaiting, is_known, are_followed}
-use Rattle.dim_gate.proofs.Followed.{followed_law}
+use Rattle.dim_gate.proofs.Exports.{followed_law}
 use Rattle.dim_monitor.specs.Found.{cycles_of}
 use Rattle.dim_vm.specs.Configuration.{Configuration, is_ended, next_of}
 use Rattle.dim_vm.specs.Fitting.{FitsEntry, FitsNext, IsWanting, IsRetaking, IsFreeing, IsTrying}

@@ -9,7 +9,7 @@ use Rattle.dim_rag.specs.History.{past}
 use Rattle.dim_asm.specs.Code.{thread_count, lock_count}
 use Rattle.dim_signature.specs.Sig.{Sig}
 use Rattle.dim_gate.specs.Learns.{learns, LearnLaw}
-use Rattle.dim_gate.proofs.Fitting.{in_range}
+use Rattle.dim_gate.proofs.Exports.{in_range}
 use Rattle.dim_execution.specs.Start.{gate_of}
 use Rattle.dim_trace.specs.Laws.{EntriesLaw, LengthLaw}
 use Rattle.dim_trace.proofs.UnitCounts.{cost, few_stacks}

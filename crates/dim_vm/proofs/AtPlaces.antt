@@ -6,8 +6,7 @@ use Rattle.std.proofs.lemmas.Option.{same_Some}
 use Rattle.dim_rag.specs.declared.entry.Entry.{Entry}
 use Rattle.dim_rag.specs.History.{past}
 use Rattle.dim_rag.specs.Places.{before}
-use Rattle.dim_rag.proofs.Kept.{newest_at, older_at, place_cases}
-use Rattle.dim_rag.proofs.Places.{before_older, before_newest, older_low}
+use Rattle.dim_rag.proofs.Exports.{newest_at, older_at, place_cases, before_older, before_newest, older_low}
 use Rattle.dim_vm.specs.Configuration.{led}
 use Rattle.dim_vm.specs.Fitting.{FitsOwn, OwnWalk}
 use Rattle.dim_vm.specs.Walks.{Walks, FitsCaller, caller_of}

@@ -1,5 +1,5 @@
 use Rattle.std.proofs.Common.{ap, ◌∙◌}
-use Rattle.dim_turn.proofs.Pairs.{two_popped}
+use Rattle.dim_turn.proofs.Exports.{two_popped}
 use Rattle.command_lives.proofs.DoorLemmas.{unasked}
 use Rattle.command_lives.proofs.doors.begin.Goals as goal
 

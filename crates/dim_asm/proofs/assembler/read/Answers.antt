@@ -1,7 +1,7 @@
 use Rattle.std.proofs.Common.{arith, refl, sym, ap, ◌∙◌, subst}
 use Rattle.std.proofs.lemmas.Result.{err_from_is_err_and}
 use Rattle.dim_text.specs.Reading.{Fails, in_line}
-use Rattle.dim_text.proofs.ReadingLemmas.{in_line_ok}
+use Rattle.dim_text.proofs.Exports.{in_line_ok}
 use Rattle.dim_asm.specs.Faults.{fault, fault_of}
 use Rattle.dim_asm.specs.Judging.{step, at_end, source_of}
 use Rattle.dim_asm.specs.Reader.{read, state_of}

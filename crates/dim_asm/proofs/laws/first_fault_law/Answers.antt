@@ -1,6 +1,6 @@
 use Rattle.std.proofs.Common.{refl, ap, ◌∙◌, Ok}
 use Rattle.dim_text.specs.Reading.{◌>>=◌}
-use Rattle.dim_text.proofs.Placing.{first_fault, first_is_read}
+use Rattle.dim_text.proofs.Exports.{first_fault, first_is_read}
 use Rattle.dim_asm.specs.declared.fault.AsmFault.{AsmFault}
 use Rattle.dim_asm.specs.Bound.{bound, own_names}
 use Rattle.dim_asm.specs.Faults.{fault}

@@ -1,5 +1,5 @@
 use Rattle.std.proofs.Common.{refl}
-use Rattle.dim_text.proofs.Placing.{first_fault, first_is_read}
+use Rattle.dim_text.proofs.Exports.{first_fault, first_is_read}
 use Rattle.dim_history_file.specs.declared.fault.FileFault.{FileFault}
 use Rattle.dim_history_file.specs.Faults.{fault}
 use Rattle.dim_history_file.specs.Places.{reading}

@@ -1,7 +1,7 @@
 use Rattle.std.proofs.Common.{◌≡◌, ◌+◌, length, arith, refl, sym, ap, ◌∙◌, subst}
 use Rattle.std.proofs.lemmas.Result.{err_from_is_err_and}
 use Rattle.dim_text.specs.Reading.{Fails, in_line, read_from}
-use Rattle.dim_text.proofs.ReadingLemmas.{in_line_ok}
+use Rattle.dim_text.proofs.Exports.{in_line_ok}
 use Rattle.dim_stack.specs.Names.{table_of, HasNames}
 use Rattle.dim_history_file.specs.Faults.{fault, fault_of}
 use Rattle.dim_history_file.specs.Judging.{step, at_end, start, history_of}

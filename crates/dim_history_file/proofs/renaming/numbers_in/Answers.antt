@@ -1,7 +1,7 @@
 use Rattle.std.proofs.Common.{◌≡◌, ◌++◌, ◌∷◌, [], Some, map, ap, ap₂, sym, ◌∙◌}
 use Rattle.std.proofs.lemmas.List.{map_push}
 use Rattle.dim_stack.specs.Names.{number_of}
-use Rattle.dim_stack.proofs.TableLemmas.{has_contains, contains_has}
+use Rattle.dim_stack.proofs.Exports.{has_contains, contains_has}
 use Rattle.dim_history_file.proofs.Sound.{map_one_more}
 use Rattle.dim_history_file.proofs.Using.{some_number, has_place}
 use Rattle.dim_history_file.proofs.renaming.numbers_in.Goals as goal

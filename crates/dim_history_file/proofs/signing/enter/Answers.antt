@@ -2,7 +2,7 @@ use Rattle.std.proofs.Common.{◌≡◌, ℕ, inl, inr, true, false, List, ◌�
 use Rattle.std.specs.Prelude.{IfSome, nat_lt}
 use Rattle.std.specs.List.{list_any}
 use Rattle.std.proofs.lemmas.Bool.{cond-true, cond-false}
-use Rattle.dim_text.proofs.WordLemmas.{chosen}
+use Rattle.dim_text.proofs.Exports.{chosen}
 use Rattle.dim_signature.specs.declared.catalogue.Add.{Add}
 use Rattle.dim_signature.specs.declared.catalogue.Add.TheVariants.{Known}
 use Rattle.dim_signature.specs.Sig.{Sig}

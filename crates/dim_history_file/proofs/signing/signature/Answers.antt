@@ -2,7 +2,7 @@ use Rattle.std.proofs.Common.{sym, ap, ◌∙◌}
 use Rattle.std.proofs.lemmas.List.Sorted.{IsPermutation-refl}
 use Rattle.dim_signature.specs.Sig.{Sig}
 use Rattle.dim_history_file.specs.Signing.{opened}
-use Rattle.dim_signature.proofs.SortLemmas.{only_sorted}
+use Rattle.dim_signature.proofs.Exports.{only_sorted}
 use Rattle.dim_history_file.proofs.signing.signature.Goals as goal
 
 pub returns-in-Ok : goal.returns-in-Ok

@@ -1,6 +1,6 @@
 use Rattle.std.proofs.Common.{sym, subst}
 use Rattle.dim_stack.specs.Names.{HasNames}
-use Rattle.dim_stack.proofs.TableLemmas.{has_second}
+use Rattle.dim_stack.proofs.Exports.{has_second}
 use Rattle.dim_history_file.proofs.tests.wider.Goals as goal
 
 pub returns : goal.returns

@@ -7,7 +7,7 @@ use Rattle.dim_rag.specs.Stuck.{IsGreatest, choice}
 use Rattle.dim_rag.specs.Tables.{Replay}
 use Rattle.dim_gate.specs.Gate.{Gate, constants}
 use Rattle.dim_gate.specs.Known.{known_sigs}
-use Rattle.dim_gate.proofs.Unlearnt.{none_chosen}
+use Rattle.dim_gate.proofs.Exports.{none_chosen}
 use Rattle.dim_run.proofs.Rested.{no_way_out_told}
 use Rattle.dim_run.proofs.SettleLoop.{twin_is, way_out_told}
 use Rattle.dim_run.proofs.settling.next_way_out.Goals as goal

@@ -1,5 +1,5 @@
 use Rattle.std.proofs.Common.{refl}
-use Rattle.dim_text.proofs.Placing.{first_fault, first_is_read}
+use Rattle.dim_text.proofs.Exports.{first_fault, first_is_read}
 use Rattle.dim_trace.specs.declared.fault.TraceFault.{TraceFault}
 use Rattle.dim_trace.specs.Faults.{fault}
 use Rattle.dim_trace.specs.Places.{reading}

@@ -1,6 +1,6 @@
 use Rattle.std.proofs.Common.{◌≡◌, Some, Ok, subst}
 use Rattle.dim_text.specs.Reading.{Gives}
-use Rattle.dim_text.proofs.ReadingLemmas.{in_line_ok}
+use Rattle.dim_text.proofs.Exports.{in_line_ok}
 use Rattle.dim_asm.specs.Faults.{fault}
 use Rattle.dim_asm.specs.Judging.{judged}
 use Rattle.dim_asm.specs.Reader.{read}

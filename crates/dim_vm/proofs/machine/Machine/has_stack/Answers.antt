@@ -1,7 +1,7 @@
 use Rattle.std.proofs.Common.{subst, List, IsTrue, ◌↔◌, ◌≡◌, ◌∙◌}
 use Rattle.std.proofs.lemmas.Slice.Eq.{slice_eq-Decides}
 use Rattle.dim_stack.specs.declared.Frame.{Frame}
-use Rattle.dim_stack.proofs.Frames.{Decides-frame}
+use Rattle.dim_stack.proofs.Exports.{Decides-frame}
 use Rattle.dim_vm.specs.Configuration.{Configuration}
 use Rattle.dim_vm.specs.Frames.{stack_of}
 use Rattle.dim_vm.proofs.machine.Machine.has_stack.Goals as goal
