@@ -10,14 +10,13 @@ mod traps;
 mod units;
 
 use crate::machine::Machine;
-use crate::state::State;
+use crate::state::{Slice, State};
 use crate::tests::fake::{Fake, Script};
 use dim_asm::{Program, assemble};
-use dim_base::{Lid, OutOfMemory, Tid};
+use dim_base::{Lid, Tid};
 use dim_rag::Why;
 use std::alloc::Global;
 use std::process::Abort;
-use std::test::Fail;
 
 // The code of a case stands between these two, as the instructions of `main`, whose thread has the argument 7.
 const BEFORE: &str = "dim program 1
@@ -92,41 +91,34 @@ struct Sayings {
     last: i64,
 }
 
-fn program_of(alloc: Global, code: &str) -> Result<Program, Fail> {
-    let text = format!(in alloc; "{BEFORE}{code}\n{BEHIND}")?;
-    Ok(assemble(alloc, text.as_bytes())?)
+fn program_of(rt: &impl Abort, alloc: Global, code: &str) -> Program {
+    let text = format!(in alloc; "{BEFORE}{code}\n{BEHIND}").expect(rt, "a text");
+    assemble(alloc, text.as_bytes()).expect(rt, "a program")
 }
 
-// One slice of a program's first thread.
+/// The program is done with. Most tests drop it by this call, since the proof of a drop is long.
+fn done(_program: Program) {}
+
+/// One slice of a program's first thread.
 fn slice_of(
+    rt: &impl Abort,
     alloc: Global,
     program: &Program,
     fuel: u32,
     q: u32,
     script: Script,
-) -> Result<(Outcome, Sayings), OutOfMemory>
+) -> (Outcome, Sayings)
     requires some { 1 ≤ q }
     requires few { q < 2 ^ 20 }
 {
     let _some = program.threads();
     let mut machine = Machine::new(program, Tid(0), fuel);
-    let mut door = Fake::new(alloc, Tid(0), program.locks(), q + 1, script)?;
+    let mut door = Fake::new(alloc, Tid(0), program.locks(), q + 1, script).expect(rt, "a door");
     let slice = machine.slice(program, &mut door, q);
-    let outcome = Outcome {
-        moves: slice.moves,
-        units: machine.units(),
-        state: slice.state,
-        asks: door.asks(),
-        entries: door.entries().len(),
-    };
-    let sayings = Sayings {
-        said: machine.said(),
-        last: machine.last(),
-    };
-    Ok((outcome, sayings))
+    (outcome_of(&slice, &machine, &door), sayings_of(&machine))
 }
 
-// The second of two slices of a program's first thread.
+/// The second of two slices of a program's first thread.
 fn second_slice_of(
     rt: &impl Abort,
     alloc: Global,
@@ -134,39 +126,52 @@ fn second_slice_of(
     fuel: u32,
     q: u32,
     script: Script,
-) -> Result<Outcome, OutOfMemory>
+) -> Outcome
     requires some { 1 ≤ q }
     requires few { q < 2 ^ 20 }
 {
     let _some = program.threads();
     let mut machine = Machine::new(program, Tid(0), fuel);
-    let mut door = Fake::new(alloc, Tid(0), program.locks(), 2 * q + 2, script)?;
+    let left = 2 * q + 2;
+    let mut door = Fake::new(alloc, Tid(0), program.locks(), left, script).expect(rt, "a door");
     let first = machine.slice(program, &mut door, q);
     assert!(rt; first.moves <= q);
     door.open();
     let second = machine.slice(program, &mut door, q);
-    Ok(Outcome {
-        moves: second.moves,
-        units: machine.units(),
-        state: second.state,
-        asks: door.asks(),
-        entries: door.entries().len(),
-    })
+    outcome_of(&second, &machine, &door)
 }
 
-// A slice of at most so many moves, or of one, of a code.
+fn outcome_of(slice: &Slice, machine: &Machine, door: &Fake) -> Outcome {
+    Outcome {
+        moves: slice.moves,
+        units: machine.units(),
+        state: slice.state,
+        asks: door.asks(),
+        entries: door.entries().len(),
+    }
+}
+
+fn sayings_of(machine: &Machine) -> Sayings {
+    Sayings {
+        said: machine.said(),
+        last: machine.last(),
+    }
+}
+
+/// A slice of at most so many moves, or of one, of a code.
 fn run(
+    rt: &impl Abort,
     alloc: Global,
     code: &str,
     fuel: u32,
     q: u16,
     script: Script,
-) -> Result<(Outcome, Sayings), Fail> {
-    let program = program_of(alloc, code)?;
-    Ok(slice_of(alloc, &program, fuel, u32::from(q).max(1), script)?)
+) -> (Outcome, Sayings) {
+    let program = program_of(rt, alloc, code);
+    slice_of(rt, alloc, &program, fuel, u32::from(q).max(1), script)
 }
 
-// The second of two slices of a code.
+/// The second of two slices of a code.
 fn run_again(
     rt: &impl Abort,
     alloc: Global,
@@ -174,9 +179,31 @@ fn run_again(
     fuel: u32,
     q: u16,
     script: Script,
-) -> Result<Outcome, Fail> {
-    let program = program_of(alloc, code)?;
-    Ok(second_slice_of(rt, alloc, &program, fuel, u32::from(q).max(1), script)?)
+) -> Outcome {
+    let program = program_of(rt, alloc, code);
+    second_slice_of(rt, alloc, &program, fuel, u32::from(q).max(1), script)
+}
+
+/// The code leads to this number.
+fn same(rt: &impl Abort, code: &str, number: u64, expected: u64) {
+    assert_eq!(rt; number, expected, "{code}");
+}
+
+/// The code leads to this state.
+fn stands(rt: &impl Abort, code: &str, outcome: &Outcome, state: State) {
+    assert_eq!(rt; outcome.state, state, "{code}");
+}
+
+/// The code ends in this state after so many moves, each of which paid a unit.
+fn ends(rt: &impl Abort, code: &str, outcome: &Outcome, state: State, fuel: u32, moves: u32) {
+    stands(rt, code, outcome, state);
+    same(rt, code, outcome.moves as u64, moves as u64);
+    same(
+        rt,
+        code,
+        outcome.units as u64,
+        fuel.saturating_sub(moves) as u64,
+    );
 }
 
 fn trapped(trap: u8) -> State {

@@ -1,23 +1,29 @@
 //! What each instruction does to the operands, the locals, the calls and the sayings.
-use super::{DONE, FREE, Sayings, run, trapped};
+use super::{DONE, FREE, Sayings, ends, run, script, trapped};
 use crate::tests::fake::Script;
 use std::alloc::Global;
 use std::fmt::Write;
-use std::test::Fail;
+use std::process::Abort;
 
-// The operands that a code leaves, the newest first: each is said, after those above it, in a run of its own.
-fn operands_after(alloc: Global, code: &str, script: Script) -> Result<Vec<i64>, Fail> {
-    let mut code = String::from_str(alloc, code)?;
+/// The operands that a code leaves, the newest first: each is said, after those above it, in a run of its own.
+fn operands_after(rt: &impl Abort, alloc: Global, code: &str, script: Script) -> Vec<i64> {
+    let mut code = String::from_str(alloc, code).expect(rt, "a text");
     let mut operands = Vec::new(alloc);
     for _ in 0..4 {
-        code.push_str("\nSAY")?;
-        let (outcome, sayings) = run(alloc, &code, 999, 999, script)?;
+        code.push_str("\nSAY").expect(rt, "room");
+        let (outcome, sayings) = run(rt, alloc, &code, 999, 999, script);
         if outcome.state == trapped(1) {
             break;
         }
-        operands.push(sayings.last)?;
+        operands.push(sayings.last).expect(rt, "room");
     }
-    Ok(operands)
+    operands
+}
+
+/// The code leaves these operands.
+fn leaves(rt: &impl Abort, alloc: Global, code: &str, script: Script, wanted: &[i64]) {
+    let operands = operands_after(rt, alloc, code, script);
+    assert_eq!(rt; operands.as_slice(), wanted, "{code}");
 }
 
 /// Codes, and the operands that they leave.
@@ -82,25 +88,20 @@ const LEAVES: [(&str, &[i64]); 51] = [
 ];
 
 #[test]
-fn what_instructions_leave(rt: HostRuntime) -> Result<(), Fail> {
-    for (code, wanted) in LEAVES {
-        let operands = operands_after(rt.alloc(), code, FREE)?;
-        assert_eq!(rt; operands.as_slice(), wanted, "{code}");
+fn what_instructions_leave(rt: HostRuntime) {
+    for &(code, wanted) in &LEAVES {
+        leaves(&rt, rt.alloc(), code, FREE, wanted);
     }
-    Ok(())
 }
 
 /// What instructions leave where the first lock that is tried is busy.
 const MISSES: [(&str, &[i64]); 2] = [("TRYLOCK a", &[0, 7]), ("TRYLOCK a\nTRYLOCK a", &[1, 0, 7])];
 
 #[test]
-fn a_lock_that_is_missed_leaves_0(rt: HostRuntime) -> Result<(), Fail> {
-    let script = super::script(0, 0, 1);
-    for (code, wanted) in MISSES {
-        let operands = operands_after(rt.alloc(), code, script)?;
-        assert_eq!(rt; operands.as_slice(), wanted, "{code}");
+fn a_lock_that_is_missed_leaves_0(rt: HostRuntime) {
+    for &(code, wanted) in &MISSES {
+        leaves(&rt, rt.alloc(), code, script(0, 0, 1), wanted);
     }
-    Ok(())
 }
 
 /// Codes, with how often they say something, and what they say last.
@@ -112,13 +113,17 @@ const SAYS: [(&str, u64, i64); 5] = [
     ("PUSH 0\nSAY\nSAY\nPUSH 0\nSAY", 3, 0),
 ];
 
+/// The code says something so often, and this last.
+fn says(rt: &impl Abort, alloc: Global, code: &str, said: u64, last: i64) {
+    let (_outcome, sayings) = run(rt, alloc, code, 999, 999, FREE);
+    assert_eq!(rt; sayings, Sayings { said, last }, "{code}");
+}
+
 #[test]
-fn sayings_are_counted(rt: HostRuntime) -> Result<(), Fail> {
-    for (code, said, last) in SAYS {
-        let (_outcome, sayings) = run(rt.alloc(), code, 999, 999, FREE)?;
-        assert_eq!(rt; sayings, Sayings { said, last }, "{code}");
+fn sayings_are_counted(rt: HostRuntime) {
+    for &(code, said, last) in &SAYS {
+        says(&rt, rt.alloc(), code, said, last);
     }
-    Ok(())
 }
 
 /// Codes that end as done, with the moves before that.
@@ -131,13 +136,15 @@ const ENDS: [(&str, u32); 6] = [
     ("JMP 2\nRET\nJMP 1", 2),
 ];
 
+/// The thread is done after so many moves.
+fn is_done(rt: &impl Abort, alloc: Global, code: &str, moves: u32) {
+    let (outcome, _sayings) = run(rt, alloc, code, 999, 999, FREE);
+    ends(rt, code, &outcome, DONE, 999, moves);
+}
+
 #[test]
-fn threads_are_done(rt: HostRuntime) -> Result<(), Fail> {
-    for (code, moves) in ENDS {
-        let (outcome, _sayings) = run(rt.alloc(), code, 999, 999, FREE)?;
-        assert_eq!(rt; outcome.state, DONE, "{code}");
-        assert_eq!(rt; outcome.moves, moves, "{code}");
-        assert_eq!(rt; outcome.units, 999u32.saturating_sub(moves), "{code}");
+fn threads_are_done(rt: HostRuntime) {
+    for &(code, moves) in &ENDS {
+        is_done(&rt, rt.alloc(), code, moves);
     }
-    Ok(())
 }

@@ -1,7 +1,8 @@
 //! What a thread does at each reply to a poll, and which of them end a slice.
 use super::{A, DONE, Outcome, SPENT, run, run_again, script};
 use crate::state::State;
-use std::test::Fail;
+use std::alloc::Global;
+use std::process::Abort;
 
 const CODE: &str = "LOCK a\nHALT";
 
@@ -66,41 +67,41 @@ const SECOND: [Case; 13] = [
     ((0, 0, 0), (1, 9), (0, 1, SPENT, 1, 1)),
 ];
 
-#[test]
-fn first_slices(rt: HostRuntime) -> Result<(), Fail> {
-    for ((yields, stills, busys), (fuel, q), (moves, units, state, asks, entries)) in FIRST {
-        let (outcome, _sayings) = run(rt.alloc(), CODE, fuel, q, script(yields, stills, busys))?;
-        let wanted = Outcome {
-            moves,
-            units,
-            state,
-            asks,
-            entries,
-        };
-        assert_eq!(rt; outcome, wanted, "{yields} {stills} {busys} {fuel} {q}");
-    }
-    Ok(())
+/// The outcome is that of the case.
+fn is_as(rt: &impl Abort, outcome: Outcome, case: &Case) {
+    let ((yields, stills, busys), (fuel, q), (moves, units, state, asks, entries)) = *case;
+    let wanted = Outcome {
+        moves,
+        units,
+        state,
+        asks,
+        entries,
+    };
+    assert_eq!(rt; outcome, wanted, "{yields} {stills} {busys} {fuel} {q}");
+}
+
+fn first_slice(rt: &impl Abort, alloc: Global, case: &Case) {
+    let ((yields, stills, busys), (fuel, q), _) = *case;
+    let (outcome, _sayings) = run(rt, alloc, CODE, fuel, q, script(yields, stills, busys));
+    is_as(rt, outcome, case);
 }
 
 #[test]
-fn second_slices(rt: HostRuntime) -> Result<(), Fail> {
-    for ((yields, stills, busys), (fuel, q), (moves, units, state, asks, entries)) in SECOND {
-        let outcome = run_again(
-            &rt,
-            rt.alloc(),
-            CODE,
-            fuel,
-            q,
-            script(yields, stills, busys),
-        )?;
-        let wanted = Outcome {
-            moves,
-            units,
-            state,
-            asks,
-            entries,
-        };
-        assert_eq!(rt; outcome, wanted, "{yields} {stills} {busys} {fuel} {q}");
+fn first_slices(rt: HostRuntime) {
+    for case in &FIRST {
+        first_slice(&rt, rt.alloc(), case);
     }
-    Ok(())
+}
+
+fn second_slice(rt: &impl Abort, alloc: Global, case: &Case) {
+    let ((yields, stills, busys), (fuel, q), _) = *case;
+    let outcome = run_again(rt, alloc, CODE, fuel, q, script(yields, stills, busys));
+    is_as(rt, outcome, case);
+}
+
+#[test]
+fn second_slices(rt: HostRuntime) {
+    for case in &SECOND {
+        second_slice(&rt, rt.alloc(), case);
+    }
 }

@@ -1,10 +1,9 @@
 //! Each trap, at each instruction that has it, and which goes before which.
-use super::{FREE, run, slice_of, trapped};
+use super::{FREE, ends, run, same, slice_of, stands, trapped};
 use dim_asm::{Program, assemble};
 use std::alloc::Global;
 use std::fmt::Write;
 use std::process::Abort;
-use std::test::Fail;
 
 const UNDER: u8 = 1;
 
@@ -134,52 +133,41 @@ const TRAPS_WHEN_FULL: [(&str, u8, u32); 9] = [
 
 const FUEL: u32 = 4_096;
 
-// A code traps after so many moves. A trap pays nothing, and its End isn't a move.
-fn assert_trap(
-    rt: &impl Abort,
-    alloc: Global,
-    code: &str,
-    trap: u8,
-    moves: u32,
-) -> Result<(), Fail> {
-    let (outcome, _sayings) = run(alloc, code, FUEL, 4_096, FREE)?;
-    assert_eq!(rt; outcome.state, trapped(trap), "{code}");
-    assert_eq!(rt; outcome.moves, moves, "{code}");
-    assert_eq!(rt; outcome.units, FUEL.saturating_sub(moves), "{code}");
-    Ok(())
+/// A code traps after so many moves. A trap pays nothing, and its End isn't a move.
+fn assert_trap(rt: &impl Abort, alloc: Global, code: &str, trap: u8, moves: u32) {
+    let (outcome, _sayings) = run(rt, alloc, code, FUEL, 4_096, FREE);
+    ends(rt, code, &outcome, trapped(trap), FUEL, moves);
 }
 
 #[test]
-fn what_traps(rt: HostRuntime) -> Result<(), Fail> {
-    for (code, trap, moves) in TRAPS {
-        assert_trap(&rt, rt.alloc(), code, trap, moves)?;
+fn what_traps(rt: HostRuntime) {
+    for &(code, trap, moves) in &TRAPS {
+        assert_trap(&rt, rt.alloc(), code, trap, moves);
     }
-    Ok(())
+}
+
+/// Where all operands are there, a code traps after so many moves.
+fn assert_trap_when_full(rt: &impl Abort, alloc: Global, code: &str, trap: u8, moves: u32) {
+    let code = format!(in alloc; "{FULL}{code}").expect(rt, "a text");
+    let moves = moves.saturating_add(MOVES_OF_FULL);
+    assert_trap(rt, alloc, &code, trap, moves);
 }
 
 #[test]
-fn what_traps_when_all_operands_are_there(rt: HostRuntime) -> Result<(), Fail> {
-    for (code, trap, moves) in TRAPS_WHEN_FULL {
-        let code = format!(in rt.alloc(); "{FULL}{code}")?;
-        assert_trap(
-            &rt,
-            rt.alloc(),
-            &code,
-            trap,
-            moves.saturating_add(MOVES_OF_FULL),
-        )?;
+fn what_traps_when_all_operands_are_there(rt: HostRuntime) {
+    for &(code, trap, moves) in &TRAPS_WHEN_FULL {
+        assert_trap_when_full(&rt, rt.alloc(), code, trap, moves);
     }
-    Ok(())
 }
 
-// A program with all locks that there may be.
-fn with_256_locks(alloc: Global, code: &str) -> Result<Program, Fail> {
-    let mut text = String::from_str(alloc, "dim program 1\n")?;
+/// A program with all locks that there may be.
+fn with_256_locks(rt: &impl Abort, alloc: Global, code: &str) -> Program {
+    let mut text = String::from_str(alloc, "dim program 1\n").expect(rt, "a text");
     for n in 0..256 {
-        writeln!(text, "lock l{n}")?;
+        writeln!(text, "lock l{n}").expect(rt, "room");
     }
-    writeln!(text, "func main 0\n{code}\nend\nthread main 0\nend program")?;
-    Ok(assemble(alloc, text.as_bytes())?)
+    writeln!(text, "func main 0\n{code}\nend\nthread main 0\nend program").expect(rt, "room");
+    assemble(alloc, text.as_bytes()).expect(rt, "a program")
 }
 
 /// The traps of code in a program of 256 locks.
@@ -189,26 +177,34 @@ const TRAPS_WITH_256_LOCKS: [(&str, u8, u32); 3] = [
     ("PUSH 256\nLOCKX", NO_LOCK, 1),
 ];
 
-#[test]
-fn what_traps_with_256_locks(rt: HostRuntime) -> Result<(), Fail> {
-    for (code, trap, moves) in TRAPS_WITH_256_LOCKS {
-        let program = with_256_locks(rt.alloc(), code)?;
-        let (outcome, _sayings) = slice_of(rt.alloc(), &program, FUEL, 99, FREE)?;
-        assert_eq!(rt; outcome.state, trapped(trap), "{code}");
-        assert_eq!(rt; outcome.moves, moves, "{code}");
-    }
-    Ok(())
+/// In a program of 256 locks, a code traps after so many moves.
+fn assert_trap_with_256_locks(rt: &impl Abort, alloc: Global, code: &str, trap: u8, moves: u32) {
+    let program = with_256_locks(rt, alloc, code);
+    let (outcome, _sayings) = slice_of(rt, alloc, &program, FUEL, 99, FREE);
+    stands(rt, code, &outcome, trapped(trap));
+    same(rt, code, outcome.moves as u64, moves as u64);
 }
 
 #[test]
-fn relock_goes_before_over(rt: HostRuntime) -> Result<(), Fail> {
-    let mut code = String::from_str(rt.alloc(), FULL)?;
-    for _ in 0..255 {
-        code.push_str("LOCK a\n")?;
+fn what_traps_with_256_locks(rt: HostRuntime) {
+    for &(code, trap, moves) in &TRAPS_WITH_256_LOCKS {
+        assert_trap_with_256_locks(&rt, rt.alloc(), code, trap, moves);
     }
-    code.push_str("TRYLOCK a")?;
+}
+
+/// All operands, a held 255 times, and a lock that is tried then.
+fn full_and_held(rt: &impl Abort, alloc: Global) -> String {
+    let mut code = String::from_str(alloc, FULL).expect(rt, "a text");
+    for _ in 0..255 {
+        code.push_str("LOCK a\n").expect(rt, "room");
+    }
+    code.push_str("TRYLOCK a").expect(rt, "room");
+    code
+}
+
+#[test]
+fn relock_goes_before_over(rt: HostRuntime) {
+    let code = full_and_held(&rt, rt.alloc());
     // a Go and a Got, and 254 Tooks
-    let moves = MOVES_OF_FULL + 256;
-    assert_trap(&rt, rt.alloc(), &code, RELOCK, moves)?;
-    Ok(())
+    assert_trap(&rt, rt.alloc(), &code, RELOCK, MOVES_OF_FULL + 256);
 }

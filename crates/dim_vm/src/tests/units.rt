@@ -1,8 +1,9 @@
 //! What moves need and pay, and where a slice ends by its number of moves.
-use super::{A, DONE, FREE, Outcome, SPENT, run, script};
+use super::{A, DONE, FREE, Outcome, SPENT, run, same, script, stands};
 use crate::state::State;
 use dim_rag::Why;
-use std::test::Fail;
+use std::alloc::Global;
+use std::process::Abort;
 
 const RUNNING: State = State::Running;
 
@@ -74,21 +75,26 @@ const PAYS: [Case; 39] = [
     ("TRYLOCK a", (9, 1), (1, 8, RUNNING, 1)),
 ];
 
-#[test]
-fn what_moves_pay(rt: HostRuntime) -> Result<(), Fail> {
-    for (code, (fuel, q), (moves, units, state, entries)) in PAYS {
-        let (outcome, _sayings) = run(rt.alloc(), code, fuel, q, FREE)?;
-        assert_eq!(rt; outcome.moves, moves, "{code}");
-        assert_eq!(rt; outcome.units, units, "{code}");
-        assert_eq!(rt; outcome.state, state, "{code}");
-        assert_eq!(rt; outcome.entries, entries, "{code}");
-    }
-    Ok(())
+/// The code pays what the case says.
+fn pays(rt: &impl Abort, alloc: Global, case: &Case) {
+    let (code, (fuel, q), (moves, units, state, entries)) = *case;
+    let (outcome, _sayings) = run(rt, alloc, code, fuel, q, FREE);
+    stands(rt, code, &outcome, state);
+    same(rt, code, outcome.moves as u64, moves as u64);
+    same(rt, code, outcome.units as u64, units as u64);
+    same(rt, code, outcome.entries as u64, entries as u64);
 }
 
 #[test]
-fn a_miss_pays_a_unit(rt: HostRuntime) -> Result<(), Fail> {
-    let (outcome, _sayings) = run(rt.alloc(), "TRYLOCK a\nHALT", 1, 9, script(0, 0, 1))?;
+fn what_moves_pay(rt: HostRuntime) {
+    for case in &PAYS {
+        pays(&rt, rt.alloc(), case);
+    }
+}
+
+#[test]
+fn a_miss_pays_a_unit(rt: HostRuntime) {
+    let (outcome, _sayings) = run(&rt, rt.alloc(), "TRYLOCK a\nHALT", 1, 9, script(0, 0, 1));
     let wanted = Outcome {
         moves: 1,
         units: 0,
@@ -97,5 +103,4 @@ fn a_miss_pays_a_unit(rt: HostRuntime) -> Result<(), Fail> {
         entries: 2,
     };
     assert_eq!(rt; outcome, wanted);
-    Ok(())
 }
