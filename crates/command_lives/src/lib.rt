@@ -11,3 +11,4 @@ mod lives;
 mod many;
 #[cfg(test)]
 mod reports;
+pub mod seats;

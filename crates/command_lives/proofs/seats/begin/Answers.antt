@@ -1,7 +1,7 @@
 use Rattle.std.proofs.Common.{ap, ◌∙◌}
 use Rattle.dim_turn.proofs.Exports.{two_popped}
 use Rattle.command_lives.proofs.DoorLemmas.{unasked}
-use Rattle.command_lives.proofs.doors.begin.Goals as goal
+use Rattle.command_lives.proofs.seats.begin.Goals as goal
 
 pub returns-clause-first : goal.returns-clause-first
 returns-clause-first g c =

@@ -3,7 +3,7 @@ use Rattle.dim_base.specs.declared.Tid.{Tid}
 use Rattle.dim_vm.specs.Configuration.{Configuration}
 use Rattle.dim_run.specs.Gates.{known}
 use Rattle.command_lives.proofs.DoorLemmas.{seated}
-use Rattle.command_lives.proofs.doors.seat_of.Goals as goal
+use Rattle.command_lives.proofs.seats.seat_of.Goals as goal
 
 pub returns-clause-seated : goal.returns-clause-seated
 returns-clause-seated g c =
