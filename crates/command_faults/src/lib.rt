@@ -17,3 +17,4 @@ mod programs;
 mod statuses;
 #[cfg(test)]
 mod switches;
+pub mod wanting;

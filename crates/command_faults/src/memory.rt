@@ -1,31 +1,10 @@
-//! Files for which memory is wanting.
-ghost use Rattle.std.specs.Prelude.{None};
-
+//! What is said where memory is wanting for files.
+use crate::wanting::Wanting;
 use command_calls::words_of;
-use dim_base::{Bytes, Fetch, Files, MemSink, OutOfMemory, Store, Word};
+use dim_base::{MemSink, OutOfMemory};
 use dim_cli::quiet;
 use std::alloc::Global;
 use std::test::Fail;
-
-// Files that always answer that memory ran out.
-#[derive(Drop)]
-struct Wanting;
-
-impl Files for Wanting {
-    ghost use Rattle.std.specs.Prelude.{None};
-
-    ghost told = { λ _. None };
-
-    ghost faults = { λ _. 0 };
-
-    fn fetch(&mut self, _alloc: Global, _name: &Word, _limit: u64) -> Result<Bytes, Fetch> {
-        Err(Fetch::OutOfMemory)
-    }
-
-    fn store(&mut self, _alloc: Global, _name: &Word, _bytes: &[u8]) -> Result<(), Store> {
-        Err(Store::OutOfMemory)
-    }
-}
 
 // The status of these words over such files, and what is put.
 fn over_wanting(
