@@ -2,21 +2,14 @@
 ghost use Rattle.std.specs.Prelude.{◌≡◌, ◌<◌, length, IfOk};
 ghost use Rattle.std.specs.String.{string_bytes};
 ghost use Rattle.dim_history_file.specs.Seen.{value_of};
-ghost use Rattle.dim_history_file.specs.Spelling.{state_word};
 ghost use Rattle.dim_cli.specs.Output.{switched_at};
 ghost use Rattle.dim_cli.specs.Report.{switched};
 
 use crate::report::{Ending, Report};
 use dim_base::{Bytes, OutOfMemory};
 use dim_history_file::History;
+use dim_text::state_word;
 use std::alloc::{AllocError, Global};
-
-/// What a state is called.
-pub fn state_word(on: bool) -> &'static str
-    ensures { result.now ≡ state_word on }
-{
-    if on { "on" } else { "off" }
-}
 
 /// The history with the signature of this number switched on or off, and all else as it was.
 pub fn switched_history(history: History, index: u32, on: bool) -> History

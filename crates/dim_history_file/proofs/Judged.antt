@@ -19,8 +19,9 @@ use Rattle.dim_history_file.specs.declared.opening.Opening.{Opening}
 use Rattle.dim_history_file.specs.declared.version.Version.{Version}
 use Rattle.dim_history_file.specs.declared.version.Version.TheVariants.{One, Two}
 use Rattle.dim_history_file.specs.Value.{NamedFrame, NamedSig}
-use Rattle.dim_history_file.specs.Judging.{Form, frame_of, frames_of, stack_of, State, Within, Closed, head, version_of, state_in, next_word, short_form, long_form, form_of, opening_of, signature_line, end_line}
-use Rattle.dim_history_file.specs.Spelling.{spelled_frame, state_word, opening_words}
+use Rattle.dim_history_file.specs.Judging.{Form, frame_of, frames_of, stack_of, State, Within, Closed, head, version_of, next_word, short_form, long_form, form_of, opening_of, signature_line, end_line}
+use Rattle.dim_text.specs.States.{state_in, state_word}
+use Rattle.dim_history_file.specs.Spelling.{spelled_frame, opening_words}
 use Rattle.dim_history_file.specs.Grammar.{CanSay, IsFrame, IsStack}
 
 pub same_bytes : (a b : List ℕ) → bytes_eq a b ≡ true → a ≡ b

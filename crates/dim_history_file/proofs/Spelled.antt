@@ -23,8 +23,9 @@ use Rattle.dim_history_file.specs.declared.version.Version.{Version}
 use Rattle.dim_history_file.specs.declared.version.Version.TheVariants.{One, Two}
 use Rattle.dim_history_file.specs.Faults.{fault}
 use Rattle.dim_history_file.specs.Value.{NamedFrame, NamedSig, renewed, migrated, same_stacks, have_stacks}
-use Rattle.dim_history_file.specs.Judging.{Form, Begun, Due, Within, Closed, State, frame_of, frames_of, stack_of, signature_with, state_in, short_form, long_form, form_of, opening_of, head_line, signature_line, end_line, due_line, is_less_than_last, with_stack, stack_line, step, at_end, start, history_of}
-use Rattle.dim_history_file.specs.Spelling.{Line, HeadLine, SignatureLine, StackLine, EndLine, spelled_frame, state_word, opening_words, spelled, opening_for, sig_lines, text_of, text_in, history_text}
+use Rattle.dim_history_file.specs.Judging.{Form, Begun, Due, Within, Closed, State, frame_of, frames_of, stack_of, signature_with, short_form, long_form, form_of, opening_of, head_line, signature_line, end_line, due_line, is_less_than_last, with_stack, stack_line, step, at_end, start, history_of}
+use Rattle.dim_text.specs.States.{state_in, state_word}
+use Rattle.dim_history_file.specs.Spelling.{Line, HeadLine, SignatureLine, StackLine, EndLine, spelled_frame, opening_words, spelled, opening_for, sig_lines, text_of, text_in, history_text}
 use Rattle.dim_history_file.specs.Grammar.{CanSay, CanSayAll, IsFrame, IsStack, AreInOrder, IsSignature, AreDistinct, IsHistory}
 use Rattle.dim_history_file.proofs.Comparing.{distinct-front}
 

@@ -32,7 +32,8 @@ use Rattle.dim_history_file.specs.declared.fault.FileKind.TheVariants.{Name, Num
 use Rattle.dim_history_file.specs.Judging.{frame_of, frames_of, stack_of}
 use Rattle.dim_history_file.specs.Value.{AreNumbersIn, NamedFrame, NamedSig, named_frame, names_of_stack, names_used}
 use Rattle.dim_history_file.specs.Naming.{name_in, names_in_word, names_in_words, names_in_line, names_in_lines, names_in}
-use Rattle.dim_history_file.specs.Spelling.{Line, HeadLine, SignatureLine, StackLine, EndLine, spelled_frame, state_word, opening_words, spelled, opening_for, sig_lines, history_lines, text_of, text_in}
+use Rattle.dim_text.specs.States.{state_word}
+use Rattle.dim_history_file.specs.Spelling.{Line, HeadLine, SignatureLine, StackLine, EndLine, spelled_frame, opening_words, spelled, opening_for, sig_lines, history_lines, text_of, text_in}
 use Rattle.dim_history_file.specs.Grammar.{IsFrame, IsStack, IsSignature, IsHistory, IsTextOf}
 use Rattle.dim_history_file.proofs.Judged.{frames_ok}
 use Rattle.dim_history_file.proofs.Spelled.{all_sides, line_has_no, head_has_no, IsOpening, feed_apart, space_apart, is_opening, signature_has_no, end_has_no, stack_has_no, words_of_stack}

@@ -7,6 +7,7 @@ use Rattle.dim_text.specs.Cuts.{lines_of, words_of, sides_of}
 use Rattle.dim_text.specs.Numerals.{number_of, number_from}
 use Rattle.dim_text.specs.Naming.{name_of}
 use Rattle.dim_text.specs.Reading.{◌>>=◌, or_else, read_from}
+use Rattle.dim_text.specs.States.{state_in}
 use Rattle.dim_text.specs.Words.{unless, filled, one_word, two_words, has_sides}
 use Rattle.dim_history_file.specs.declared.fault.FileKind.{FileKind}
 use Rattle.dim_history_file.specs.declared.fault.FileKind.TheVariants.{Line, Name, Number, Unsorted, Double, Count, Rest, Limit}
@@ -60,13 +61,6 @@ pub record Form : Type 0 where
   pub count : List ℕ
   pub on : Bool
   pub yields : List ℕ
-
--- `on` or `off`
-abbrev pub state_in : List ℕ → Option Bool
-state_in word =
-    if bytes_eq word (codes "on") then Some true
-    else (if bytes_eq word (codes "off") then Some false
-    else None)
 
 -- a word and those behind it
 abbrev pub next_word : List (List ℕ) → Result (List ℕ × List (List ℕ)) FileKind

@@ -3,6 +3,7 @@ use Rattle.std.specs.Prelude.{ℕ, Bool, ◌==◌, if◌then◌else◌, List, []
 use Rattle.std.specs.List.{flat_map}
 use Rattle.std.specs.Fmt.{decimal}
 use Rattle.dim_text.specs.Cuts.{line_of, ended, frame_word}
+use Rattle.dim_text.specs.States.{state_word}
 use Rattle.dim_history_file.specs.declared.opening.Opening.{Opening}
 use Rattle.dim_history_file.specs.declared.version.Version.{Version}
 use Rattle.dim_history_file.specs.declared.version.Version.TheVariants.{One, Two}
@@ -18,9 +19,6 @@ pub data Line : Type 0 where
 
 abbrev pub spelled_frame : NamedFrame → List ℕ
 spelled_frame f = frame_word f.name (decimal f.at)
-
-abbrev pub state_word : Bool → List ℕ
-state_word on = if on then codes "on" else codes "off"
 
 -- what stands behind the first word of a signature's line: version 1 has no state and no yields
 abbrev pub opening_words : Version → Opening → List (List ℕ)

@@ -1,14 +1,14 @@
 //! The line that opens a signature.
 ghost use Rattle.std.specs.Prelude.{◌≡◌, Some};
 ghost use Rattle.dim_text.specs.Reading.{Gives};
-ghost use Rattle.dim_history_file.specs.Judging.{form_of, long_form, next_word, opening_of, short_form, state_in};
+ghost use Rattle.dim_history_file.specs.Judging.{form_of, long_form, next_word, opening_of, short_form};
 ghost use Rattle.dim_history_file.specs.Reader.{form_seen};
 ghost use Rattle.dim_history_file.specs.Signing.{line_for};
 
 use crate::FileKind;
 use crate::version::Version;
 use dim_signature::Signature;
-use dim_text::{Parts, number, number_from, two_words};
+use dim_text::{Parts, number, number_from, state_in, two_words};
 
 /// What the line says.
 #[derive(Clone, Copy, Debug, PartialEq, Eq)]
@@ -52,19 +52,6 @@ fn next_word<'a>(words: &mut Parts<'a>) -> Result<&'a [u8], FileKind>
     match words.next_part() {
         Some(word) if !word.is_empty() => Ok(word),
         _ => Err(FileKind::Line),
-    }
-}
-
-// Whether a word says on or off.
-fn state_in(word: &[u8]) -> Option<bool>
-    ensures { result ≡ state_in word.now }
-{
-    if word == b"on".as_slice() {
-        Some(true)
-    } else if word == b"off".as_slice() {
-        Some(false)
-    } else {
-        None
     }
 }
 

@@ -154,7 +154,8 @@ impl Reader {
         requires sorted { AreSorted self.old.stacks.items }
         requires in_range { IsSig (opened opening self.old.stacks.items) }
         requires room { length self.old.catalogue.sigs < 4096 }
-        ensures value { Leaves kind_of (state_of self.new) result (with_signature self.old.version (sigs_of self.old)
+        ensures value { Leaves kind_of (state_of self.new) result
+            (with_signature self.old.version (sigs_of self.old)
             (signature_with opening (map (named_stack self.old.names) self.old.stacks.items))) }
         ensures names { self.new.names ≡ self.old.names }
         ensures reading { OnOk result (IsReading self.new) }
@@ -176,7 +177,8 @@ impl Reader {
         requires reading { IsReading self.old }
         requires begun { IsBegun self.old.version (sigs_of self.old) (begun_of self.old opening) }
         requires covers { HasNames self.old.names (names_in_line line.now) }
-        ensures value { Leaves kind_of (state_of self.new) result (stack_line self.old.version (sigs_of self.old)
+        ensures value { Leaves kind_of (state_of self.new) result
+            (stack_line self.old.version (sigs_of self.old)
             (begun_of self.old opening) (words_of line.now)) }
         ensures names { self.new.names ≡ self.old.names }
         ensures reading { OnOk result (IsReading self.new) }

@@ -5,7 +5,7 @@ ghost use Rattle.dim_text.specs.Cuts.{ended};
 ghost use Rattle.dim_stack.specs.Names.{IsNamedBy};
 ghost use Rattle.dim_history_file.specs.Value.{named_stack, named_sig};
 ghost use Rattle.dim_history_file.specs.Judging.{history_of};
-ghost use Rattle.dim_history_file.specs.Spelling.{StackLine, spelled, sig_lines, state_word, text_of, history_text, gap};
+ghost use Rattle.dim_history_file.specs.Spelling.{StackLine, spelled, sig_lines, text_of, history_text, gap};
 ghost use Rattle.dim_history_file.specs.declared.version.Version.TheVariants.{Two};
 ghost use Rattle.dim_history_file.specs.Grammar.{AreNear, AreSized, IsHistory, IsSized};
 ghost use Rattle.dim_history_file.specs.Seen.{value_of};
@@ -14,6 +14,7 @@ use crate::History;
 use dim_base::{Bytes, OutOfMemory};
 use dim_signature::Signature;
 use dim_stack::{Names, Stack};
+use dim_text::state_word;
 use std::alloc::{AllocError, Global};
 use std::fmt::Write;
 
@@ -40,13 +41,6 @@ pub fn put_stack(text: &mut String, names: &Names, stack: &Stack) -> Result<(), 
         write!(text, "{gap}{name}:{at}")?;
     }
     text.push('\n')
-}
-
-// What a state is called.
-fn state_word(on: bool) -> &'static str
-    ensures { result.now ≡ state_word on }
-{
-    if on { "on" } else { "off" }
 }
 
 // Appends the lines of a signature.

@@ -9,7 +9,8 @@ use Rattle.dim_words.specs.declared.kind.Kind.{Kind}
 use Rattle.dim_words.specs.declared.kind.Kind.TheVariants as kinds
 use Rattle.dim_words.specs.declared.kind.Setting.{Setting}
 use Rattle.dim_words.specs.declared.kind.Setting.TheVariants.{Fuel, Quantum, Depth, Seed, Workers}
-use Rattle.dim_words.specs.Words.{Asked, Run, Live, Check, Show, Switch, RunWords, CheckWords, SwitchWords, show_by, generate_by, switch_by, switch_of, state_of, is_switch, is_run, is_check, Parted, are_apart, asked_by, at_least, check_by, generate_of, history_place, is_dash, is_history, is_name, least_of, most_of, names_wanted, placed, run_by, settings_of, unset, value_of, when, with_name, with_value}
+use Rattle.dim_text.specs.States.{state_in}
+use Rattle.dim_words.specs.Words.{Asked, Run, Live, Check, Show, Switch, RunWords, CheckWords, SwitchWords, show_by, generate_by, switch_by, switch_of, is_switch, is_run, is_check, Parted, are_apart, asked_by, at_least, check_by, generate_of, history_place, is_dash, is_history, is_name, least_of, most_of, names_wanted, placed, run_by, settings_of, unset, value_of, when, with_name, with_value}
 use Rattle.dim_words.specs.Kept.{Kept, has_seen, is_dashed, is_here, keep_given, keep_name, mark, may_stand, next_place, with_given, with_word}
 use Rattle.dim_words.proofs.Items.{Given, Item, Name, keep_items, option_word, part_items, same_word, some≢none}
 use Rattle.dim_words.proofs.Walks.{given_kept, name_kept, names_of, then_is}
@@ -233,7 +234,7 @@ bad_generate (a ∷ b ∷ []) bad = go (number_of 4294967295 a) refl
 bad_generate (a ∷ b ∷ c ∷ more) bad = refl
 
 -- a state begins with no dash
-state_good : (w : Text) (on : Bool) → state_of w ≡ Some on → may_stand None w ≡ true
+state_good : (w : Text) (on : Bool) → state_in w ≡ Some on → may_stand None w ≡ true
 state_good w on e = first (bytes_eq w (codes "on")) refl e
   where
     word_good : (other : Text) → bytes_eq w other ≡ true → may_stand None other ≡ true → may_stand None w ≡ true
@@ -261,15 +262,15 @@ bad_switch (a ∷ b ∷ []) bad = refl
 bad_switch (a ∷ b ∷ c ∷ []) bad = refl
 bad_switch (a ∷ b ∷ c ∷ d ∷ []) bad = go (number_of 4294967295 b) refl
   where
-    further : (n : ℕ) → number_of 4294967295 b ≡ Some n → (o : Option Bool) → state_of c ≡ o → option_and_then (switch_of a d n) o ≡ None
+    further : (n : ℕ) → number_of 4294967295 b ≡ Some n → (o : Option Bool) → state_in c ≡ o → option_and_then (switch_of a d n) o ≡ None
     further n i None e = refl
     further n i (Some on) e =
         let w : SwitchWords = record { history = a; index = n; on = on; new_history = d } in
         unless (is_switch w) (Switch w) _ (switch_good w b c (number_good b n i) (state_good c on e)) bad
 
-    go : (o : Option ℕ) → number_of 4294967295 b ≡ o → option_and_then (λ n. option_and_then (switch_of a d n) (state_of c)) o ≡ None
+    go : (o : Option ℕ) → number_of 4294967295 b ≡ o → option_and_then (λ n. option_and_then (switch_of a d n) (state_in c)) o ≡ None
     go None i = refl
-    go (Some n) i = further n i (state_of c) refl
+    go (Some n) i = further n i (state_in c) refl
 bad_switch (a ∷ b ∷ c ∷ d ∷ e ∷ more) bad = refl
 
 pub bad_names : (kind : Kind) (q : Parted) → good_names (history_place kind) q.names ≡ false → asked_by kind q ≡ None

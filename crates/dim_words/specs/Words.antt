@@ -2,6 +2,7 @@
 use Rattle.std.specs.Prelude.{ℕ, ◌==◌, List, [], ◌∷◌, ◌++◌, length, Option, Some, None, option_and_then, Bool, true, false, not, ◌&&◌, ◌||◌, nat_le, nat_lt, if◌then◌else◌, codes}
 use Rattle.std.specs.Str.{bytes_eq}
 use Rattle.dim_text.specs.Numerals.{number_of}
+use Rattle.dim_text.specs.States.{state_in}
 use Rattle.dim_run.specs.declared.settings.Settings.{Settings}
 use Rattle.dim_words.specs.declared.kind.Kind.{Kind}
 use Rattle.dim_words.specs.declared.kind.Kind.TheVariants as kinds
@@ -252,13 +253,6 @@ abbrev pub generate_by : List (List ℕ) → Option Asked
 generate_by (n ∷ program ∷ []) = generate_of program (number_of 4294967295 n)
 generate_by names = None
 
--- the state that a word names
-abbrev pub state_of : List ℕ → Option Bool
-state_of word =
-    if bytes_eq word (codes "on") then Some true
-    else (if bytes_eq word (codes "off") then Some false
-    else None)
-
 abbrev pub switch_of : List ℕ → List ℕ → ℕ → Bool → Option Asked
 switch_of history new_history index on =
     let w : SwitchWords = record { history = history; index = index; on = on; new_history = new_history } in when (is_switch w) (Switch w)
@@ -266,7 +260,7 @@ switch_of history new_history index on =
 -- `switch HISTORY I STATE NEWHISTORY`
 abbrev pub switch_by : List (List ℕ) → Option Asked
 switch_by (history ∷ i ∷ state ∷ new_history ∷ []) =
-    option_and_then (λ index. option_and_then (switch_of history new_history index) (state_of state)) (number_of 4294967295 i)
+    option_and_then (λ index. option_and_then (switch_of history new_history index) (state_in state)) (number_of 4294967295 i)
 switch_by names = None
 
 abbrev pub asked_by : Kind → Parted → Option Asked

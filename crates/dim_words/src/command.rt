@@ -2,7 +2,7 @@
 ghost use Rattle.std.specs.Prelude.{◌≡◌, true, false, IfSome, option_map};
 ghost use Rattle.std.specs.Str.{bytes_eq};
 ghost use Rattle.dim_run.specs.Settings.{AreSettings};
-ghost use Rattle.dim_words.specs.Words.{is_name, is_dash, is_history, are_apart, is_run, is_check, settings_of, default_settings, run_by, check_by, show_by, generate_by, state_of, is_switch, switch_by, RunWords, Asked, Check, Show, Generate, Switch};
+ghost use Rattle.dim_words.specs.Words.{is_name, is_dash, is_history, are_apart, is_run, is_check, settings_of, default_settings, run_by, check_by, show_by, generate_by, is_switch, switch_by, RunWords, Asked, Check, Show, Generate, Switch};
 ghost use Rattle.dim_words.specs.Commands.{asked, run_words, check_words, switch_words, IsFineRun, IsFine};
 ghost use Rattle.dim_words.specs.Found.{asked_line};
 
@@ -10,7 +10,7 @@ use crate::kind::Kind;
 use crate::parting::{Line, Parting};
 use dim_base::Word;
 use dim_run::Settings;
-use dim_text::number;
+use dim_text::{number, state_in};
 
 /// What `run` and `live` are given.
 #[derive(Clone, Copy, Debug)]
@@ -209,17 +209,6 @@ fn generate_of(parting: &Parting) -> Option<(u32, &Word)>
     }
 }
 
-// The state that a word names.
-fn state_of(word: &Word) -> Option<bool>
-    ensures { result ≡ state_of word.now }
-{
-    match word.as_str() {
-        "on" => Some(true),
-        "off" => Some(false),
-        _ => None,
-    }
-}
-
 fn switch_of(parting: &Parting) -> Option<SwitchCommand<'_>>
     ensures { option_map (λ c. Switch (switch_words c)) result ≡ switch_by parting.now.names }
 {
@@ -229,7 +218,7 @@ fn switch_of(parting: &Parting) -> Option<SwitchCommand<'_>>
     let switch = SwitchCommand {
         history,
         index: number(index.as_slice(), u32::MAX)?,
-        on: state_of(state)?,
+        on: state_in(state.as_slice())?,
         new_history,
     };
     if switch.is_switch() {
