@@ -87,12 +87,14 @@ impl Word {
         })
     }
 
+    /// The text.
     pub fn as_str(&self) -> &str
         ensures { result.now ≡ self.now }
     {
         self.text.as_str()
     }
 
+    /// The bytes of the text.
     pub fn as_slice(&self) -> &[u8]
         ensures { result.now ≡ self.now }
     {
@@ -131,6 +133,7 @@ impl Bytes {
         Bytes { items }
     }
 
+    /// The bytes.
     pub fn as_slice(&self) -> &[u8]
         ensures { result.now ≡ self.now }
     {

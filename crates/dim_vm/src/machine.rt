@@ -98,8 +98,8 @@ impl Machine {
         requires locks { (D.seen door.old).locks ≡ lock_count program.now }
 
         // the moves, of which `result.moves` is the number, and the End, if there is one
-        ensures made { IsSlice program.now self.old (D.seen door.old) q result.moves self.new (D.seen door.new)
-            (D.stopped door.new) (D.woken door.new) }
+        ensures made { IsSlice program.now self.old (D.seen door.old) q result.moves
+            self.new (D.seen door.new) (D.stopped door.new) (D.woken door.new) }
         ensures stops { ((D.seen door.new).stops ≡ (D.seen door.old).stops)
             ⊎ (WasStopped (D.seen door.old) (D.seen door.new) × (result.moves < q)) }
         ensures fits { FitsMachine program.now self.new (D.seen door.new).own }

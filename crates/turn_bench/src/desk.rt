@@ -38,6 +38,7 @@ pub struct Desk {
 }
 
 impl Desk {
+    /// A desk with room for so many entries. Memory may run out.
     pub fn new(alloc: Global, room: u32) -> Result<Desk, OutOfMemory> {
         let gate = new_gate(alloc, room)?;
         Ok(Desk { gate, left: room })

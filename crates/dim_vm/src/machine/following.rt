@@ -51,7 +51,8 @@ impl Machine {
 
     /// Goes on by an entry, if that tells what is next.
     fn go_on(&mut self, program: &Program, e: &EntryRef<'_>, may_end: bool) -> bool
-        ensures fits { IsTrue result ↔ FitsEntry program.now (IsTrue may_end) self.old (shown e.now) }
+        ensures fits { IsTrue result
+            ↔ FitsEntry program.now (IsTrue may_end) self.old (shown e.now) }
         ensures moved { IsTrue result → self.new ≡ moved program.now self.old (shown e.now) }
     {
         if !self.may_make(e) {
