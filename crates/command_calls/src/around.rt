@@ -21,6 +21,16 @@ impl Around {
         Ok(self.files.held(&Word::of(alloc, name)?))
     }
 
+    /// Whether a call ended with this status and put this.
+    pub fn says(&self, status: u8, put: &[u8]) -> bool {
+        self.status == status && self.out.taken() == put
+    }
+
+    /// Whether these bytes stand under a name.
+    pub fn keeps(&self, alloc: Global, name: &str, bytes: &[u8]) -> Result<bool, OutOfMemory> {
+        Ok(self.held(alloc, name)? == Some(bytes))
+    }
+
     /// Whether what stands under a name begins with these bytes.
     pub fn begins(&self, alloc: Global, name: &str, front: &[u8]) -> Result<bool, OutOfMemory> {
         match self.held(alloc, name)? {

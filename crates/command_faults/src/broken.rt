@@ -1,11 +1,10 @@
 //! Texts that are cut off at each byte, and a history of which each byte is altered.
+use crate::calls::{call, done, lacks};
+use command_calls::Around;
 use command_calls::programs::{LEARNT, LEARNT_BEFORE, SMALLEST, SMALLEST_TRACE};
-use command_calls::{Around, over};
-use dim_base::{MemFiles, OutOfMemory, Word};
 use std::alloc::Global;
 use std::process::Abort;
 use std::sync::Wait;
-use std::test::Fail;
 use std::thread::Threads;
 
 // What is put of the first n bytes of a text stands in the first row whose number is above n.
@@ -51,89 +50,80 @@ fn line_at(cuts: &[(usize, &'static str)], n: usize) -> &'static str {
 }
 
 // What these words leave over good files p, g and t, of which one has these bytes in place of its own.
-fn broken<R: Threads + Wait + Sync>(
+fn broken<R: Abort + Threads + Wait + Sync>(
     rt: &R,
     alloc: Global,
-    words: &[&str],
-    name: &str,
-    bytes: &[u8],
-) -> Result<Around, OutOfMemory> {
-    let mut files = MemFiles::new(alloc, &[])?;
-    files.give(&Word::of(alloc, "p")?, SMALLEST)?;
-    files.give(&Word::of(alloc, "g")?, LEARNT)?;
-    files.give(&Word::of(alloc, "t")?, SMALLEST_TRACE)?;
-    files.give(&Word::of(alloc, name)?, bytes)?;
-    over(rt, alloc, words, files)
+    words: &str,
+    file: (&str, &[u8]),
+) -> Around {
+    let given = [("p", SMALLEST), ("g", LEARNT), ("t", SMALLEST_TRACE), file];
+    call(rt, alloc, words, &given)
+}
+
+// With these bytes in a file these words end with this status, put this, and store no new history.
+fn is_told<R: Abort + Threads + Wait + Sync>(
+    rt: &R,
+    alloc: Global,
+    words: &str,
+    file: (&str, &[u8]),
+    status: u8,
+    put: &str,
+) {
+    let after = broken(rt, alloc, words, file);
+    let n = file.1.len();
+    assert!(rt; after.says(status, put.as_bytes()), "{words}: {n} bytes");
+    lacks(rt, alloc, &after, "h");
+    done(after);
 }
 
 // Cuts the text of a file off at each of its bytes.
 fn cut_off<R: Abort + Threads + Wait + Sync>(
     rt: &R,
     alloc: Global,
-    words: &[&str],
+    words: &str,
     file: (&str, &[u8]),
     status: u8,
     cuts: &[(usize, &'static str)],
-) -> Result<(), OutOfMemory> {
+) {
     let (name, text) = file;
     for n in 0..text.len() {
-        let after = broken(rt, alloc, words, name, &text[..n])?;
-        assert_eq!(rt; after.status, status, "{n} bytes");
-        assert_eq!(rt; after.out.taken(), line_at(cuts, n).as_bytes(), "{n} bytes");
-        assert!(rt; after.held(alloc, "h")?.is_none());
+        let cut = (name, &text[..n]);
+        is_told(rt, alloc, words, cut, status, line_at(cuts, n));
     }
-    Ok(())
 }
 
 #[test]
-fn a_text_may_be_cut_off_anywhere(rt: HostRuntime) -> Result<(), Fail> {
+fn a_text_may_be_cut_off_anywhere(rt: HostRuntime) {
     let alloc = rt.alloc();
     let history = ("g", LEARNT);
-    cut_off(&rt, alloc, &["show", "g"], history, 6, &HISTORY_CUTS)?;
-    cut_off(
-        &rt,
-        alloc,
-        &["switch", "g", "0", "off", "h"],
-        ("g", LEARNT_BEFORE),
-        6,
-        &OLD_HISTORY_CUTS,
-    )?;
-    cut_off(
-        &rt,
-        alloc,
-        &["run", "p", "g", "h", "s"],
-        history,
-        6,
-        &HISTORY_CUTS,
-    )?;
-    cut_off(
-        &rt,
-        alloc,
-        &["check", "p", "-", "t"],
-        ("t", SMALLEST_TRACE),
-        13,
-        &TRACE_CUTS,
-    )?;
+    cut_off(&rt, alloc, "show g", history, 6, &HISTORY_CUTS);
+    let old = ("g", LEARNT_BEFORE);
+    cut_off(&rt, alloc, "switch g 0 off h", old, 6, &OLD_HISTORY_CUTS);
+    cut_off(&rt, alloc, "run p g h s", history, 6, &HISTORY_CUTS);
+    let trace = ("t", SMALLEST_TRACE);
+    cut_off(&rt, alloc, "check p - t", trace, 13, &TRACE_CUTS);
     let program = ("p", SMALLEST);
-    cut_off(
-        &rt,
-        alloc,
-        &["run", "p", "-", "h", "s"],
-        program,
-        5,
-        &PROGRAM_CUTS,
-    )?;
-    Ok(())
+    cut_off(&rt, alloc, "run p - h s", program, 5, &PROGRAM_CUTS);
+}
+
+// The history that was learnt, with a 0 in place of the byte at n.
+fn altered(rt: &impl Abort, alloc: Global, n: usize) -> Vec<u8> {
+    let mut bytes = Vec::from_slice(alloc, LEARNT).expect(rt, "bytes");
+    assert!(rt; n < bytes.len());
+    bytes[n] = 0;
+    bytes
+}
+
+fn is_refused<R: Abort + Threads + Wait + Sync>(rt: &R, alloc: Global, n: usize) {
+    let bytes = altered(rt, alloc, n);
+    let after = broken(rt, alloc, "show g", ("g", bytes.as_slice()));
+    assert_eq!(rt; after.status, 6, "byte {n}");
+    done(after);
 }
 
 #[test]
-fn no_byte_of_a_history_may_be_altered(rt: HostRuntime) -> Result<(), Fail> {
-    let alloc = rt.alloc();
+fn no_byte_of_a_history_may_be_altered(rt: HostRuntime) {
     for n in 0..LEARNT.len() {
-        let mut bytes = Vec::from_slice(alloc, LEARNT)?;
-        bytes[n] = 0;
-        let after = broken(&rt, alloc, &["show", "g"], "g", &bytes)?;
-        assert_eq!(rt; after.status, 6, "byte {n}");
+        is_refused(&rt, rt.alloc(), n);
     }
-    Ok(())
 }

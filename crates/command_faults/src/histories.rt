@@ -1,98 +1,103 @@
 //! Histories that are shown, and those that are refused.
 
+use crate::calls::{answers, call, done, ended, is_too_long, keeps};
 use command_calls::large::{many_signatures, many_signatures_before};
 use command_calls::programs::{LEARNT_BEFORE, SMALLEST, SWITCHED_OFF};
-use command_calls::words::SHORT_SLICES;
-use command_calls::{Around, loaded};
-use dim_base::OutOfMemory;
 use std::alloc::Global;
+use std::process::Abort;
 use std::sync::Wait;
-use std::test::Fail;
 use std::thread::Threads;
 
-// What `show` puts of a history with this text.
-fn shown<R: Threads + Wait + Sync>(
+// These words over a history g end with this status and put this.
+fn shows<R: Abort + Threads + Wait + Sync>(
     rt: &R,
     alloc: Global,
+    words: &str,
     history: &[u8],
-) -> Result<Around, OutOfMemory> {
-    loaded(rt, alloc, &["show", "g"], SMALLEST, history)
+    status: u8,
+    put: &str,
+) {
+    let given = [("p", SMALLEST), ("g", history)];
+    answers(rt, alloc, words, &given, status, put);
 }
 
-#[test]
-fn a_history_is_shown(rt: HostRuntime) -> Result<(), Fail> {
-    let alloc = rt.alloc();
-    let after = shown(&rt, alloc, LEARNT_BEFORE)?;
-    assert_eq!(rt; after.status, 0);
-    assert_eq!(rt;
-        after.out.taken(),
-        b"signature 0 depth 4 on yields 0\nleft:0\nright:0\nsignatures 1\n".as_slice()
-    );
-    let off = shown(&rt, alloc, SWITCHED_OFF)?;
-    assert_eq!(rt;
-        off.out.taken(),
-        b"signature 0 depth 4 off yields 0\nleft:0\nright:0\nsignatures 1\n".as_slice()
-    );
-    let none = loaded(&rt, alloc, &["show", "-"], SMALLEST, LEARNT_BEFORE)?;
-    assert_eq!(rt; none.out.taken(), b"signatures 0\n".as_slice());
-    Ok(())
-}
+// Words, a history g, and what is put of it.
+const SHOWN: [(&str, &[u8], &str); 3] = [
+    (
+        "show g",
+        LEARNT_BEFORE,
+        "signature 0 depth 4 on yields 0\nleft:0\nright:0\nsignatures 1\n",
+    ),
+    (
+        "show g",
+        SWITCHED_OFF,
+        "signature 0 depth 4 off yields 0\nleft:0\nright:0\nsignatures 1\n",
+    ),
+    ("show -", LEARNT_BEFORE, "signatures 0\n"),
+];
 
 #[test]
-fn a_history_may_be_bad(rt: HostRuntime) -> Result<(), Fail> {
-    let alloc = rt.alloc();
-    let cut = shown(
-        &rt,
-        alloc,
+fn a_history_is_shown(rt: HostRuntime) {
+    for &(words, history, put) in &SHOWN {
+        shows(&rt, rt.alloc(), words, history, 0, put);
+    }
+}
+
+// Histories that are refused, and the line that is put of each.
+const BAD: [(&[u8], &str); 3] = [
+    (
         b"dim history 1\nsignature 4 2\nleft:0\nright:0\nend 1",
-    )?;
-    assert_eq!(rt; cut.status, 6);
-    assert_eq!(rt; cut.out.taken(), b"history line 5 kind 2\n".as_slice());
-    let more = shown(
-        &rt,
-        alloc,
+        "history line 5 kind 2\n",
+    ),
+    (
         b"dim history 1\nsignature 4 2\nleft:0\nright:0\nend 1\n\n",
-    )?;
-    assert_eq!(rt; more.out.taken(), b"history line 6 kind 8\n".as_slice());
-    let swapped = shown(
-        &rt,
-        alloc,
+        "history line 6 kind 8\n",
+    ),
+    (
         b"dim history 1\nsignature 4 2\nright:0\nleft:0\nend 1\n",
-    )?;
-    assert_eq!(rt; swapped.out.taken(), b"history line 4 kind 5\n".as_slice());
-    Ok(())
+        "history line 4 kind 5\n",
+    ),
+];
+
+#[test]
+fn a_history_may_be_bad(rt: HostRuntime) {
+    for &(history, put) in &BAD {
+        shows(&rt, rt.alloc(), "show g", history, 6, put);
+    }
 }
 
 #[test]
-fn a_history_may_be_too_long(rt: HostRuntime) -> Result<(), Fail> {
-    let alloc = rt.alloc();
-    let bytes = Vec::from_elem(alloc, b'\n', 8_388_609)?;
-    let after = shown(&rt, alloc, &bytes)?;
-    assert_eq!(rt; after.status, 12);
-    assert_eq!(rt; after.out.taken(), b"file long history\n".as_slice());
-    Ok(())
+fn a_history_may_be_too_long(rt: HostRuntime) {
+    let put = "file long history\n";
+    is_too_long(&rt, rt.alloc(), "show g", "g", 8_388_609, put);
+}
+
+// A run in slices of two moves.
+const RUN: &str = "run p g h t --quantum 2";
+
+// This history is too full for a run, which puts this.
+fn is_too_full<R: Abort + Threads + Wait + Sync>(rt: &R, alloc: Global, text: String, put: &str) {
+    shows(rt, alloc, RUN, text.as_bytes(), 10, put);
 }
 
 #[test]
-fn a_history_may_be_too_full(rt: HostRuntime) -> Result<(), Fail> {
-    let alloc = rt.alloc();
-    let text = many_signatures_before(alloc, 4081)?;
-    let after = loaded(&rt, alloc, &SHORT_SLICES, SMALLEST, text.as_bytes())?;
-    assert_eq!(rt; after.status, 10);
-    assert_eq!(rt; after.out.taken(), b"history full 4081 112071\n".as_slice());
-    let text = many_signatures(alloc, 4081)?;
-    let after = loaded(&rt, alloc, &SHORT_SLICES, SMALLEST, text.as_bytes())?;
-    assert_eq!(rt; after.status, 10);
-    assert_eq!(rt; after.out.taken(), b"history full 4081 132476\n".as_slice());
-    Ok(())
+fn a_history_may_be_too_full(rt: HostRuntime) {
+    let before = many_signatures_before(rt.alloc(), 4081).expect(&rt, "a history");
+    is_too_full(&rt, rt.alloc(), before, "history full 4081 112071\n");
+    let text = many_signatures(rt.alloc(), 4081).expect(&rt, "a history");
+    is_too_full(&rt, rt.alloc(), text, "history full 4081 132476\n");
+}
+
+// A run keeps this history.
+fn is_kept<R: Abort + Threads + Wait + Sync>(rt: &R, alloc: Global, history: &[u8]) {
+    let after = call(rt, alloc, RUN, &[("p", SMALLEST), ("g", history)]);
+    ended(rt, &after, RUN, 0);
+    keeps(rt, alloc, &after, "h", history);
+    done(after);
 }
 
 #[test]
-fn the_largest_history_is_kept(rt: HostRuntime) -> Result<(), Fail> {
-    let alloc = rt.alloc();
-    let text = many_signatures(alloc, 4080)?;
-    let after = loaded(&rt, alloc, &SHORT_SLICES, SMALLEST, text.as_bytes())?;
-    assert_eq!(rt; after.status, 0);
-    assert_eq!(rt; after.held(alloc, "h")?, Some(text.as_bytes()));
-    Ok(())
+fn the_largest_history_is_kept(rt: HostRuntime) {
+    let text = many_signatures(rt.alloc(), 4080).expect(&rt, "a history");
+    is_kept(&rt, rt.alloc(), text.as_bytes());
 }

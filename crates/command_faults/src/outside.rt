@@ -1,37 +1,20 @@
 //! Each call outside fails once, and each file is absent once.
+use crate::calls::{done, ended, failing, keeps, keeps_front, refuses, says};
+use command_calls::Around;
 use command_calls::programs::{EMPTY, SMALLEST, SMALLEST_TRACE};
-use command_calls::{Around, driven};
-use dim_base::{MemFiles, MemSink, OutOfMemory, Word};
 use std::alloc::Global;
+use std::process::Abort;
 use std::sync::Wait;
-use std::test::Fail;
 use std::thread::Threads;
 
-// What these words leave over good files p, g and t. The calls on files and on the sink with these numbers fail.
-fn failing<R: Threads + Wait + Sync>(
-    rt: &R,
-    alloc: Global,
-    text: &str,
-    file_fails: &[u32],
-    sink_fails: &[u32],
-) -> Result<Around, OutOfMemory> {
-    let words: Vec<&str> = text.split_whitespace().collect(alloc)?;
-    let mut files = MemFiles::new(alloc, file_fails)?;
-    files.give(&Word::of(alloc, "p")?, SMALLEST)?;
-    files.give(&Word::of(alloc, "g")?, EMPTY)?;
-    files.give(&Word::of(alloc, "t")?, SMALLEST_TRACE)?;
-    driven(
-        rt,
-        alloc,
-        words.as_slice(),
-        files,
-        MemSink::new(alloc, sink_fails)?,
-    )
-}
+// Good files.
+const GOOD: [(&str, &[u8]); 3] = [("p", SMALLEST), ("g", EMPTY), ("t", SMALLEST_TRACE)];
 
-// Words, the call on files that fails, the line that is put, and how much of the new history h and of the trace s is there then. A store that
-// fails leaves its first half.
-const FAULTS: [(&str, u32, &str, usize, usize); 14] = [
+// Words, the call on files that fails, the line that is put, and how much of the new history h and of the trace s is there then.
+type Fault = (&'static str, u32, &'static str, usize, usize);
+
+// A store that fails leaves its first half.
+const FAULTS: [Fault; 14] = [
     ("run p g h s", 1, "file fault program\n", 0, 0),
     ("run p g h s", 2, "file fault history\n", 0, 0),
     ("run p g h s", 3, "file fault newhistory\n", 10, 0),
@@ -48,23 +31,20 @@ const FAULTS: [(&str, u32, &str, usize, usize); 14] = [
     ("generate 7 n", 1, "file fault program\n", 0, 0),
 ];
 
+fn is_told<R: Abort + Threads + Wait + Sync>(rt: &R, alloc: Global, fault: &Fault) {
+    let (words, place, put, history, trace) = *fault;
+    let after = failing(rt, alloc, words, &GOOD, &[place], &[]);
+    says(rt, &after, words, 7, put);
+    keeps_front(rt, alloc, &after, "h", EMPTY, history);
+    keeps_front(rt, alloc, &after, "s", SMALLEST_TRACE, trace);
+    done(after);
+}
+
 #[test]
-fn each_call_on_files_may_fail(rt: HostRuntime) -> Result<(), Fail> {
-    let alloc = rt.alloc();
-    for (words, call, line, history, trace) in FAULTS {
-        let after = failing(&rt, alloc, words, &[call], &[])?;
-        assert_eq!(rt; after.status, 7, "{words} at {call}");
-        assert_eq!(rt; after.out.taken(), line.as_bytes());
-        assert_eq!(rt;
-            after.held(alloc, "h")?.unwrap_or(&[]),
-            EMPTY.get(..history).unwrap_or(EMPTY)
-        );
-        assert_eq!(rt;
-            after.held(alloc, "s")?.unwrap_or(&[]),
-            SMALLEST_TRACE.get(..trace).unwrap_or(SMALLEST_TRACE)
-        );
+fn each_call_on_files_may_fail(rt: HostRuntime) {
+    for fault in &FAULTS {
+        is_told(&rt, rt.alloc(), fault);
     }
-    Ok(())
 }
 
 // Words of which one names no file, and the line that is put.
@@ -81,15 +61,10 @@ const ABSENCES: [(&str, &str); 9] = [
 ];
 
 #[test]
-fn each_file_may_be_absent(rt: HostRuntime) -> Result<(), Fail> {
-    let alloc = rt.alloc();
-    for (words, line) in ABSENCES {
-        let after = failing(&rt, alloc, words, &[], &[])?;
-        assert_eq!(rt; after.status, 16, "{words}");
-        assert_eq!(rt; after.out.taken(), line.as_bytes());
-        assert!(rt; after.held(alloc, "h")?.is_none());
+fn each_file_may_be_absent(rt: HostRuntime) {
+    for &(words, put) in &ABSENCES {
+        refuses(&rt, rt.alloc(), words, &GOOD, 16, put);
     }
-    Ok(())
 }
 
 // Words whose put fails, and their status: a report that can't be put is told by it, and a refusal's line isn't.
@@ -106,17 +81,38 @@ const SILENCES: [(&str, u8); 10] = [
     ("halt", 2),
 ];
 
+// What these words leave where their put fails.
+fn unheard<R: Abort + Threads + Wait + Sync>(rt: &R, alloc: Global, words: &str) -> Around {
+    failing(rt, alloc, words, &GOOD, &[], &[1])
+}
+
+fn ends_unheard<R: Abort + Threads + Wait + Sync>(rt: &R, alloc: Global, words: &str, status: u8) {
+    let after = unheard(rt, alloc, words);
+    ended(rt, &after, words, status);
+    done(after);
+}
+
+// A live run has stored both of its files before its put.
+fn live_has_stored<R: Abort + Threads + Wait + Sync>(rt: &R, alloc: Global) {
+    let after = unheard(rt, alloc, "live p g h s");
+    keeps(rt, alloc, &after, "h", EMPTY);
+    keeps(rt, alloc, &after, "s", SMALLEST_TRACE);
+    done(after);
+}
+
+// A program that is generated is stored before the put.
+fn generate_has_stored<R: Abort + Threads + Wait + Sync>(rt: &R, alloc: Global) {
+    let after = unheard(rt, alloc, "generate 7 n");
+    let begins = after.begins(alloc, "n", b"dim program 1\nlock l00\n");
+    assert!(rt; begins.expect(rt, "a name"));
+    done(after);
+}
+
 #[test]
-fn each_put_may_fail(rt: HostRuntime) -> Result<(), Fail> {
-    let alloc = rt.alloc();
-    for (words, status) in SILENCES {
-        let after = failing(&rt, alloc, words, &[], &[1])?;
-        assert_eq!(rt; after.status, status, "{words}");
+fn each_put_may_fail(rt: HostRuntime) {
+    for &(words, status) in &SILENCES {
+        ends_unheard(&rt, rt.alloc(), words, status);
     }
-    let after = failing(&rt, alloc, "live p g h s", &[], &[1])?;
-    assert_eq!(rt; after.held(alloc, "h")?, Some(EMPTY));
-    assert_eq!(rt; after.held(alloc, "s")?, Some(SMALLEST_TRACE));
-    let after = failing(&rt, alloc, "generate 7 n", &[], &[1])?;
-    assert!(rt; after.begins(alloc, "n", b"dim program 1\nlock l00\n")?);
-    Ok(())
+    live_has_stored(&rt, rt.alloc());
+    generate_has_stored(&rt, rt.alloc());
 }

@@ -1,31 +1,23 @@
 //! Statuses, and the lines that go with them.
 
-use command_calls::called;
+use crate::calls::{call, done, ended, is_too_long};
 use command_calls::programs::SMALLEST;
-use command_calls::words::RUN;
-use dim_base::OutOfMemory;
 use std::alloc::Global;
+use std::process::Abort;
 use std::sync::Wait;
-use std::test::Fail;
 use std::thread::Threads;
 
 #[test]
-fn a_program_may_be_too_long(rt: HostRuntime) -> Result<(), Fail> {
-    let alloc = rt.alloc();
-    let bytes = Vec::from_elem(alloc, b'\n', 4_194_305)?;
-    let after = called(&rt, alloc, &RUN, &bytes, &[], &[])?;
-    assert_eq!(rt; after.status, 12);
-    assert_eq!(rt; after.out.taken(), b"file long program\n".as_slice());
-    Ok(())
+fn a_program_may_be_too_long(rt: HostRuntime) {
+    let put = "file long program\n";
+    is_too_long(&rt, rt.alloc(), "run p - h t", "p", 4_194_305, put);
 }
 
-// The status of these words.
-fn status<R: Threads + Wait + Sync>(
-    rt: &R,
-    alloc: Global,
-    words: &[&str],
-) -> Result<u8, OutOfMemory> {
-    Ok(called(rt, alloc, words, SMALLEST, &[], &[])?.status)
+// These words over the smallest program end with this status.
+fn ends<R: Abort + Threads + Wait + Sync>(rt: &R, alloc: Global, words: &str, status: u8) {
+    let after = call(rt, alloc, words, &[("p", SMALLEST)]);
+    ended(rt, &after, words, status);
+    done(after);
 }
 
 // Words that are no command.
@@ -48,23 +40,15 @@ const NO_COMMANDS: [&str; 15] = [
 ];
 
 #[test]
-fn words_may_be_no_command(rt: HostRuntime) -> Result<(), Fail> {
-    let alloc = rt.alloc();
-    for text in NO_COMMANDS {
-        let words: Vec<&str> = text.split_whitespace().collect(alloc)?;
-        assert_eq!(rt; status(&rt, alloc, words.as_slice())?, 2);
+fn words_may_be_no_command(rt: HostRuntime) {
+    for &words in &NO_COMMANDS {
+        ends(&rt, rt.alloc(), words, 2);
     }
-    Ok(())
 }
 
 #[test]
-fn options_stand_anywhere(rt: HostRuntime) -> Result<(), Fail> {
-    let alloc = rt.alloc();
-    assert_eq!(rt;
-        status(&rt, alloc, &["run", "--fuel", "5", "p", "-", "h", "t"])?,
-        0
-    );
-    Ok(())
+fn options_stand_anywhere(rt: HostRuntime) {
+    ends(&rt, rt.alloc(), "run --fuel 5 p - h t", 0);
 }
 
 // Seeds, and the status of a run with each.
@@ -77,11 +61,8 @@ const SEEDED: [(&str, u8); 5] = [
 ];
 
 #[test]
-fn a_seed_may_be_any_number_of_32_bits(rt: HostRuntime) -> Result<(), Fail> {
-    let alloc = rt.alloc();
-    for (text, wanted) in SEEDED {
-        let words: Vec<&str> = text.split_whitespace().collect(alloc)?;
-        assert_eq!(rt; status(&rt, alloc, words.as_slice())?, wanted);
+fn a_seed_may_be_any_number_of_32_bits(rt: HostRuntime) {
+    for &(words, status) in &SEEDED {
+        ends(&rt, rt.alloc(), words, status);
     }
-    Ok(())
 }

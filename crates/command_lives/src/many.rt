@@ -1,16 +1,15 @@
 //! Many live runs, each checked.
-use crate::reports::{lines_with, number_at};
+use crate::calls::{call, call_after, held, succeeds_after};
+use crate::reports::{as_text, lines_with, number_at};
 use command_calls::programs::{
     CHAINED, CROSSED, EMPTY, ENDS_HOLDING, FIRST_FRAMES, FIVE_FORKS, INTERLEAVED, LEADS_ON, LEARNT,
     ONE_AGAINST_TWO, PHILOSOPHERS, SMALLEST, THREE_CROSSED,
 };
 use command_calls::words::{CHECK, CHECK_ALONE};
-use command_calls::{Around, called, loaded, over};
-use dim_base::OutOfMemory;
+use command_calls::{Around, loaded};
 use std::alloc::Global;
 use std::process::Abort;
 use std::sync::Wait;
-use std::test::Fail;
 use std::thread::Threads;
 
 // Programs whose threads wait for each other, and what is known of them.
@@ -52,19 +51,29 @@ impl Tally {
     }
 }
 
-// Whether a run came to an outcome, `check` says yes to its trace, and its new history reads back.
-fn is_sound<R: Threads + Wait + Sync>(
-    rt: &R,
-    alloc: Global,
-    after: Around,
-) -> Result<bool, OutOfMemory> {
-    let ended = matches!(after.status, 0 | 3 | 4);
-    let checked = over(rt, alloc, &CHECK, after.files)?;
-    let shown = over(rt, alloc, &["show", "h"], checked.files)?;
-    Ok(ended && checked.status == 0 && shown.status == 0)
+// A run came to an outcome, `check` says yes to its trace, and its new history reads back.
+fn is_sound<R: Abort + Threads + Wait + Sync>(rt: &R, alloc: Global, after: Around) {
+    assert!(rt; matches!(after.status, 0 | 3 | 4));
+    let checked = call_after(rt, alloc, &CHECK, after);
+    assert!(rt; checked.status == 0);
+    succeeds_after(rt, alloc, &["show", "h"], checked);
 }
 
-// Runs a program with so many workers, in slices of each of the quanta, and checks and counts each run.
+// Runs a program with these words, and checks and counts the run.
+fn live_once<R: Abort + Threads + Wait + Sync>(
+    rt: &R,
+    alloc: Global,
+    words: &[&str],
+    program: &[u8],
+    history: &[u8],
+    tally: &mut Tally,
+) {
+    let after = loaded(rt, alloc, words, program, history).expect(rt, "memory");
+    tally.count(as_text(after.out.taken()));
+    is_sound(rt, alloc, after);
+}
+
+// Runs a program with so many workers, in slices of each of the quanta.
 fn live_often<R: Abort + Threads + Wait + Sync>(
     rt: &R,
     alloc: Global,
@@ -72,8 +81,8 @@ fn live_often<R: Abort + Threads + Wait + Sync>(
     history: &[u8],
     workers: &str,
     tally: &mut Tally,
-) -> Result<(), OutOfMemory> {
-    for quantum in QUANTA {
+) {
+    for &quantum in &QUANTA {
         let words = [
             "live",
             "p",
@@ -85,33 +94,32 @@ fn live_often<R: Abort + Threads + Wait + Sync>(
             "--workers",
             workers,
         ];
-        let after = loaded(rt, alloc, &words, program, history)?;
-        tally.count(str::from_utf8(after.out.taken()).unwrap_or(""));
-        assert!(rt; is_sound(rt, alloc, after)?);
+        live_once(rt, alloc, &words, program, history, tally);
     }
-    Ok(())
+}
+
+// Runs each program with each number of workers.
+fn live_all<R: Abort + Threads + Wait + Sync>(rt: &R, alloc: Global, tally: &mut Tally) {
+    for &(program, history) in &PROGRAMS {
+        for &workers in &WORKERS {
+            live_often(rt, alloc, program, history, workers, tally);
+        }
+    }
 }
 
 // With slices of two moves both threads of `CROSSED` take their first locks in the first round: so a deadlock is learnt, and once it is known one
 // of them yields, however their calls fall in with each other.
 #[test]
-fn two_hundred_live_runs_are_checked(rt: HostRuntime) -> Result<(), Fail> {
-    let alloc = rt.alloc();
+fn two_hundred_live_runs_are_checked(rt: HostRuntime) {
     let mut tally = Tally {
         runs: 0,
         learnt: 0,
         yielded: 0,
     };
-    for _ in 0..2 {
-        for (program, history) in PROGRAMS {
-            for workers in WORKERS {
-                live_often(&rt, alloc, program, history, workers, &mut tally)?;
-            }
-        }
-    }
+    live_all(&rt, rt.alloc(), &mut tally);
+    live_all(&rt, rt.alloc(), &mut tally);
     assert_eq!(rt; tally.runs, 200);
     assert!(rt; tally.learnt > 0 && tally.yielded > 0);
-    Ok(())
 }
 
 // The words of a report behind which numbers of entries stand, with the words of their lines in a trace.
@@ -127,18 +135,28 @@ const KINDS: [(&str, &[&str]); 9] = [
     ("learn", &["learn"]),
 ];
 
-#[test]
-fn a_generated_program_lives(rt: HostRuntime) -> Result<(), Fail> {
-    let alloc = rt.alloc();
-    let stored = called(&rt, alloc, &["generate", "7", "p"], SMALLEST, &[], &[])?;
+// What a live run of the program of 7 leaves.
+fn live_7<R: Abort + Threads + Wait + Sync>(rt: &R, alloc: Global) -> Around {
+    let stored = call(rt, alloc, &["generate", "7", "p"], SMALLEST);
     let words = ["live", "p", "-", "h", "t", "--workers", "4"];
-    let live = over(&rt, alloc, &words, stored.files)?;
-    let report = str::from_utf8(live.out.taken()).unwrap_or("");
-    let trace = str::from_utf8(live.held(alloc, "t")?.unwrap_or(&[])).unwrap_or("");
-    for (word, lines) in KINDS {
-        assert_eq!(rt; number_at(report, word), lines_with(trace, lines), "{word}");
+    call_after(rt, alloc, &words, stored)
+}
+
+// The report says of each kind what the trace has.
+fn agree(rt: &impl Abort, report: &str, trace: &str) {
+    for &(word, lines) in &KINDS {
+        assert!(rt;
+            number_at(report, word) == lines_with(trace, lines),
+            "{word}"
+        );
     }
-    assert_eq!(rt; number_at(report, "entries"), number_at(trace, "end"));
-    assert_eq!(rt; over(&rt, alloc, &CHECK_ALONE, live.files)?.status, 0);
-    Ok(())
+    assert!(rt; number_at(report, "entries") == number_at(trace, "end"));
+}
+
+#[test]
+fn a_generated_program_lives(rt: HostRuntime) {
+    let live = live_7(&rt, rt.alloc());
+    let trace = as_text(held(&rt, rt.alloc(), &live, "t"));
+    agree(&rt, as_text(live.out.taken()), trace);
+    succeeds_after(&rt, rt.alloc(), &CHECK_ALONE, live);
 }

@@ -1,5 +1,10 @@
 //! What a report and a trace say in numbers.
 
+// Bytes as a text; the empty text where they are none.
+pub fn as_text(bytes: &[u8]) -> &str {
+    str::from_utf8(bytes).unwrap_or("")
+}
+
 // The number behind a word at the start of a line; 0 where no line has it.
 pub fn number_at(text: &str, word: &str) -> u64 {
     for line in text.lines() {
