@@ -26,8 +26,3 @@ pub use op::Op;
 pub use printing::print;
 pub use program::Program;
 pub use start::Start;
-
-#[cfg(test)]
-mod print_tests;
-#[cfg(test)]
-mod tests;

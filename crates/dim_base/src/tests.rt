@@ -2,7 +2,7 @@ use super::*;
 use crate::streams::{read_all, write_all};
 use std::alloc::Global;
 use std::io::{self, ErrorKind, Read, Write};
-use std::test::Fail;
+use std::process::Abort;
 
 // A reader that gives its bytes three at a time, was interrupted before the first, and fails where none is left and it is to fail.
 #[derive(Drop)]
@@ -72,189 +72,259 @@ impl Write for Cells {
     }
 }
 
+const EIGHT: &[u8] = b"one two!";
+
+// Both numbers are the same.
+fn same(rt: &impl Abort, number: u64, expected: u64) {
+    assert_eq!(rt; number, expected);
+}
+
+// These bytes are the expected ones.
+fn are(rt: &impl Abort, bytes: &[u8], expected: &[u8]) {
+    assert!(rt; bytes == expected);
+}
+
+// The expected bytes were fetched.
+fn gives(rt: &impl Abort, fetched: Result<Bytes, Fetch>, expected: &[u8]) {
+    let bytes = fetched.expect(rt, "bytes");
+    are(rt, bytes.as_slice(), expected);
+}
+
+// There are no bytes, for this cause.
+fn gives_none(rt: &impl Abort, fetched: Result<Bytes, Fetch>, cause: Fetch) {
+    let found = fetched.expect_err(rt, "no bytes");
+    assert_eq!(rt; found, cause);
+}
+
+// What is read of the eight bytes within a limit.
+fn read_eight(alloc: Global, fails: bool, limit: u64, faults: &mut u64) -> Result<Bytes, Fetch> {
+    read_all(alloc, Pieces::of(EIGHT, fails), limit, faults)
+}
+
 #[test]
-fn all_pieces_are_read(rt: HostRuntime) -> Result<(), Fail> {
+fn all_pieces_are_read(rt: HostRuntime) {
     let alloc = rt.alloc();
     let mut faults = 0;
-    let eight = b"one two!".as_slice();
-    let all = read_all(alloc, Pieces::of(eight, false), 8, &mut faults)?;
-    assert_eq!(rt; all.as_slice(), eight);
-    let long = read_all(alloc, Pieces::of(eight, false), 7, &mut faults);
-    assert!(rt; matches!(long, Err(Fetch::Long { limit: 7 })));
-    assert_eq!(rt; faults, 0);
-    let broken = read_all(alloc, Pieces::of(eight, true), 9, &mut faults);
-    assert!(rt; matches!(broken, Err(Fetch::Failed)));
-    assert_eq!(rt; faults, 1);
-    Ok(())
+    gives(&rt, read_eight(alloc, false, 8, &mut faults), EIGHT);
+    let long = Fetch::Long { limit: 7 };
+    gives_none(&rt, read_eight(alloc, false, 7, &mut faults), long);
+    same(&rt, faults, 0);
+    gives_none(&rt, read_eight(alloc, true, 9, &mut faults), Fetch::Failed);
+    same(&rt, faults, 1);
+}
+
+// A writer with this room takes these of the eight bytes. All of them are taken, or not.
+fn takes(rt: &impl Abort, room: usize, taken: &[u8], all: bool) {
+    let mut cells = Cells::with_room(room);
+    assert!(rt; write_all(&mut cells, EIGHT) == all);
+    assert!(rt; taken.len() <= 8);
+    are(rt, &cells.cells[..taken.len()], taken);
 }
 
 #[test]
-fn short_writes_go_on(rt: HostRuntime) -> Result<(), Fail> {
-    let mut wide = Cells::with_room(8);
-    assert!(rt; write_all(&mut wide, b"one two!"));
-    assert_eq!(rt; wide.cells.as_slice(), b"one two!".as_slice());
-    let mut narrow = Cells::with_room(5);
-    assert!(rt; !write_all(&mut narrow, b"one two!"));
-    assert_eq!(rt; &narrow.cells[..5], b"one t".as_slice());
-    Ok(())
+fn short_writes_go_on(rt: HostRuntime) {
+    takes(&rt, 8, b"one two!", true);
+    takes(&rt, 5, b"one t", false);
 }
 
-// Stores a text under a name, and fetches it again.
-fn stored_and_fetched<F: Files>(files: &mut F, alloc: Global) -> Result<Bytes, Fetch> {
-    let name = Word::of(alloc, "notes")?;
-    if files.store(alloc, &name, b"one two").is_err() {
-        return Err(Fetch::Failed);
-    }
-    files.fetch(alloc, &name, 7)
+fn word(rt: &impl Abort, alloc: Global, text: &str) -> Word {
+    Word::of(alloc, text).expect(rt, "a word")
 }
 
-// Puts two lines.
-fn put_twice<S: Sink>(sink: &mut S, alloc: Global) -> Result<(), Put> {
-    sink.put(alloc, b"one\n")?;
-    sink.put(alloc, b"two\n")
+// A fetch gives these bytes.
+fn fetches<F: Files>(
+    rt: &impl Abort,
+    alloc: Global,
+    files: &mut F,
+    name: &str,
+    limit: u64,
+    bytes: &[u8],
+) {
+    let name = word(rt, alloc, name);
+    gives(rt, files.fetch(alloc, &name, limit), bytes);
+}
+
+// A fetch gives no bytes, for this cause.
+fn fetches_none<F: Files>(
+    rt: &impl Abort,
+    alloc: Global,
+    files: &mut F,
+    name: &str,
+    limit: u64,
+    cause: Fetch,
+) {
+    let name = word(rt, alloc, name);
+    gives_none(rt, files.fetch(alloc, &name, limit), cause);
+}
+
+// The bytes are stored.
+fn stores<F: Files>(rt: &impl Abort, alloc: Global, files: &mut F, name: &str, bytes: &[u8]) {
+    let name = word(rt, alloc, name);
+    files.store(alloc, &name, bytes).expect(rt, "a store");
+}
+
+// A store of the bytes fails.
+fn fails<F: Files>(rt: &impl Abort, alloc: Global, files: &mut F, name: &str, bytes: &[u8]) {
+    let name = word(rt, alloc, name);
+    let stored = files.store(alloc, &name, bytes);
+    assert!(rt; matches!(stored, Err(Store::Failed)));
+}
+
+// A text is stored under a name, and fetched again.
+fn comes_back<F: Files>(rt: &impl Abort, alloc: Global, files: &mut F) {
+    stores(rt, alloc, files, "notes", b"one two");
+    fetches(rt, alloc, files, "notes", 7, b"one two");
+}
+
+// Two lines are put.
+fn put_twice<S: Sink>(rt: &impl Abort, alloc: Global, sink: &mut S) {
+    sink.put(alloc, b"one\n").expect(rt, "a line");
+    sink.put(alloc, b"two\n").expect(rt, "a line");
 }
 
 #[test]
-fn the_current_folder(rt: HostRuntime) -> Result<(), Fail> {
+fn the_current_folder(rt: HostRuntime) {
     let alloc = rt.alloc();
     let mut files = DirFiles::new(&rt);
-    let name = Word::of(alloc, "notes")?;
-    assert!(rt; matches!(files.fetch(alloc, &name, 9), Err(Fetch::Absent)));
-    let bytes = stored_and_fetched(&mut files, alloc)?;
-    assert_eq!(rt; bytes.as_slice(), b"one two".as_slice());
-    assert!(rt; matches!(files.fetch(alloc, &name, 6), Err(Fetch::Long { limit: 6 })));
-    assert_eq!(rt; files.faults, 0);
-    let folder = Word::of(alloc, ".")?;
-    assert!(rt; matches!(files.fetch(alloc, &folder, 9), Err(Fetch::Failed)));
-    let absent = Word::of(alloc, "no/such/file")?;
-    assert!(rt; matches!(files.store(alloc, &absent, b""), Err(Store::Failed)));
-    assert_eq!(rt; files.faults, 2);
-    Ok(())
+    let long = Fetch::Long { limit: 6 };
+    fetches_none(&rt, alloc, &mut files, "notes", 9, Fetch::Absent);
+    comes_back(&rt, alloc, &mut files);
+    fetches_none(&rt, alloc, &mut files, "notes", 6, long);
+    same(&rt, files.faults, 0);
+    fetches_none(&rt, alloc, &mut files, ".", 9, Fetch::Failed);
+    fails(&rt, alloc, &mut files, "no/such/file", b"");
+    same(&rt, files.faults, 2);
 }
 
 #[test]
-fn a_store_replaces_a_file_and_leaves_all_others(rt: HostRuntime) -> Result<(), Fail> {
+fn a_store_replaces_a_file_and_leaves_all_others(rt: HostRuntime) {
     let alloc = rt.alloc();
     let mut files = DirFiles::new(&rt);
-    let name = Word::of(alloc, "kept")?;
-    let beside = Word::of(alloc, "kept.unfinished.0")?;
-    let next = Word::of(alloc, "kept.unfinished.1")?;
-    files.store(alloc, &name, b"old")?;
-    assert!(rt; matches!(files.fetch(alloc, &beside, 9), Err(Fetch::Absent)));
-    files.store(alloc, &beside, b"another's")?;
-    files.store(alloc, &name, b"new")?;
-    assert_eq!(rt; files.fetch(alloc, &name, 9)?.as_slice(), b"new".as_slice());
-    assert_eq!(rt;
-        files.fetch(alloc, &beside, 9)?.as_slice(),
-        b"another's".as_slice()
-    );
-    assert!(rt; matches!(files.fetch(alloc, &next, 9), Err(Fetch::Absent)));
-    assert_eq!(rt; files.faults, 0);
-    Ok(())
+    let (beside, next) = ("kept.unfinished.0", "kept.unfinished.1");
+    stores(&rt, alloc, &mut files, "kept", b"old");
+    fetches_none(&rt, alloc, &mut files, beside, 9, Fetch::Absent);
+    stores(&rt, alloc, &mut files, beside, b"another's");
+    stores(&rt, alloc, &mut files, "kept", b"new");
+    fetches(&rt, alloc, &mut files, "kept", 9, b"new");
+    fetches(&rt, alloc, &mut files, beside, 9, b"another's");
+    fetches_none(&rt, alloc, &mut files, next, 9, Fetch::Absent);
+    same(&rt, files.faults, 0);
+}
+
+// A name of so many letters.
+fn long_name(rt: &impl Abort, alloc: Global, letters: usize) -> String {
+    "n".repeat(alloc, letters).expect(rt, "a name")
 }
 
 #[test]
-fn a_long_name_is_written_over_and_a_longer_one_fails(rt: HostRuntime) -> Result<(), Fail> {
+fn a_long_name_is_written_over_and_a_longer_one_fails(rt: HostRuntime) {
     let alloc = rt.alloc();
     let mut files = DirFiles::new(&rt);
-    let long = "n".repeat(alloc, 255)?;
-    let name = Word::of(alloc, long.as_str())?;
-    files.store(alloc, &name, b"one")?;
-    files.store(alloc, &name, b"two")?;
-    assert_eq!(rt; files.fetch(alloc, &name, 9)?.as_slice(), b"two".as_slice());
-    let longer = "n".repeat(alloc, 256)?;
-    let name = Word::of(alloc, longer.as_str())?;
-    assert!(rt; matches!(files.store(alloc, &name, b""), Err(Store::Failed)));
-    assert!(rt; matches!(files.fetch(alloc, &name, 9), Err(Fetch::Failed)));
-    assert_eq!(rt; files.faults, 2);
-    Ok(())
+    let long = long_name(&rt, alloc, 255);
+    stores(&rt, alloc, &mut files, long.as_str(), b"one");
+    stores(&rt, alloc, &mut files, long.as_str(), b"two");
+    fetches(&rt, alloc, &mut files, long.as_str(), 9, b"two");
+    let longer = long_name(&rt, alloc, 256);
+    fails(&rt, alloc, &mut files, longer.as_str(), b"");
+    fetches_none(&rt, alloc, &mut files, longer.as_str(), 9, Fetch::Failed);
+    same(&rt, files.faults, 2);
 }
 
 // That lines come out is shown by the program's stored run.
 #[test]
-fn standard_output(rt: HostRuntime) -> Result<(), Fail> {
+fn standard_output(rt: HostRuntime) {
     let mut sink = StdSink::new(&rt);
-    put_twice(&mut sink, rt.alloc())?;
-    assert_eq!(rt; sink.faults, 0);
-    Ok(())
+    put_twice(&rt, rt.alloc(), &mut sink);
+    same(&rt, sink.faults, 0);
 }
 
+// The files are done with.
+fn close(_files: MemFiles) {}
+
 #[test]
-fn a_failing_call_goes_before_an_absent_and_a_long_file(rt: HostRuntime) -> Result<(), Fail> {
+fn a_failing_call_goes_before_an_absent_and_a_long_file(rt: HostRuntime) {
     let alloc = rt.alloc();
-    let mut files = MemFiles::new(alloc, &[1, 4])?;
-    let name = Word::of(alloc, "notes")?;
-    assert!(rt; matches!(files.fetch(alloc, &name, 3), Err(Fetch::Failed)));
-    assert!(rt; matches!(files.fetch(alloc, &name, 3), Err(Fetch::Absent)));
+    let mut files = MemFiles::new(alloc, &[1, 4]).expect(&rt, "files");
+    let name = word(&rt, alloc, "notes");
+    let long = Fetch::Long { limit: 3 };
+    fetches_none(&rt, alloc, &mut files, "notes", 3, Fetch::Failed);
+    fetches_none(&rt, alloc, &mut files, "notes", 3, Fetch::Absent);
     assert!(rt; files.held(&name).is_none());
-    files.give(&name, b"four")?;
-    assert!(rt; matches!(files.fetch(alloc, &name, 3), Err(Fetch::Long { limit: 3 })));
-    assert!(rt; matches!(files.fetch(alloc, &name, 3), Err(Fetch::Failed)));
-    assert_eq!(rt;
-        files.fetch(alloc, &name, 4)?.as_slice(),
-        b"four".as_slice()
-    );
-    assert_eq!(rt; files.faults, 2);
-    Ok(())
+    files.give(&name, b"four").expect(&rt, "a file");
+    fetches_none(&rt, alloc, &mut files, "notes", 3, long);
+    fetches_none(&rt, alloc, &mut files, "notes", 3, Fetch::Failed);
+    fetches(&rt, alloc, &mut files, "notes", 4, b"four");
+    same(&rt, files.faults, 2);
+    close(files);
 }
 
 #[test]
-fn a_failing_store_leaves_the_first_half(rt: HostRuntime) -> Result<(), Fail> {
+fn a_failing_store_leaves_the_first_half(rt: HostRuntime) {
     let alloc = rt.alloc();
-    let mut files = MemFiles::new(alloc, &[2])?;
-    let name = Word::of(alloc, "notes")?;
-    files.store(alloc, &name, b"one")?;
-    assert!(rt; matches!(files.store(alloc, &name, b"three"), Err(Store::Failed)));
-    assert_eq!(rt; files.held(&name), Some(b"th".as_slice()));
-    assert_eq!(rt; files.faults, 1);
-    let bytes = stored_and_fetched(&mut files, alloc)?;
-    assert_eq!(rt; bytes.as_slice(), b"one two".as_slice());
-    Ok(())
+    let mut files = MemFiles::new(alloc, &[2]).expect(&rt, "files");
+    let name = word(&rt, alloc, "notes");
+    stores(&rt, alloc, &mut files, "notes", b"one");
+    fails(&rt, alloc, &mut files, "notes", b"three");
+    are(&rt, files.held(&name).expect(&rt, "a half"), b"th");
+    same(&rt, files.faults, 1);
+    comes_back(&rt, alloc, &mut files);
+    close(files);
 }
 
 #[test]
-fn a_failing_put_takes_the_first_half(rt: HostRuntime) -> Result<(), Fail> {
+fn a_failing_put_takes_the_first_half(rt: HostRuntime) {
     let alloc = rt.alloc();
-    let mut sink = MemSink::new(alloc, &[3])?;
-    put_twice(&mut sink, alloc)?;
+    let mut sink = MemSink::new(alloc, &[3]).expect(&rt, "a sink");
+    put_twice(&rt, alloc, &mut sink);
     assert!(rt; matches!(sink.put(alloc, b"three"), Err(Put::Failed)));
-    assert_eq!(rt; sink.taken(), b"one\ntwo\nth".as_slice());
-    assert_eq!(rt; sink.faults, 1);
-    Ok(())
+    are(&rt, sink.taken(), b"one\ntwo\nth");
+    same(&rt, sink.faults, 1);
+}
+
+// A sink that never fails takes both lines.
+fn takes_both(rt: &impl Abort, alloc: Global) {
+    let mut sink = SureSink::new(alloc);
+    put_twice(rt, alloc, &mut sink);
+    are(rt, sink.taken(), b"one\ntwo\n");
 }
 
 #[test]
-fn sure_files_and_a_sure_sink_take_everything(rt: HostRuntime) -> Result<(), Fail> {
+fn sure_files_and_a_sure_sink_take_everything(rt: HostRuntime) {
     let alloc = rt.alloc();
     let mut files = SureFiles::new(alloc);
-    let name = Word::of(alloc, "draft")?;
+    let name = word(&rt, alloc, "draft");
     assert!(rt; files.held(&name).is_none());
-    files.give(&name, b"first")?;
-    let bytes = stored_and_fetched(&mut files, alloc)?;
-    assert_eq!(rt; bytes.as_slice(), b"one two".as_slice());
-    assert_eq!(rt; files.held(&name), Some(b"first".as_slice()));
-    let mut sink = SureSink::new(alloc);
-    put_twice(&mut sink, alloc)?;
-    assert_eq!(rt; sink.taken(), b"one\ntwo\n".as_slice());
-    Ok(())
+    files.give(&name, b"first").expect(&rt, "a file");
+    comes_back(&rt, alloc, &mut files);
+    are(&rt, files.held(&name).expect(&rt, "a file"), b"first");
+    takes_both(&rt, alloc);
+}
+
+// A word is its text, and equal to another of that text.
+fn is_its_text(rt: &impl Abort, alloc: Global) {
+    let left = word(rt, alloc, "left");
+    let again = word(rt, alloc, "left");
+    assert!(rt; left.as_str() == "left");
+    are(rt, left.as_slice(), b"left");
+    assert!(rt; left == again);
+}
+
+const ASCENDING: [(&str, &str); 4] = [("", "a"), ("a", "ab"), ("ab", "b"), ("B", "a")];
+
+// The word of the first text comes before that of the second.
+fn ascend(rt: &impl Abort, alloc: Global, before: &str, after: &str) {
+    let low = word(rt, alloc, before);
+    let high = word(rt, alloc, after);
+    assert!(rt; low < high, "{before} {after}");
 }
 
 #[test]
-fn words_are_in_the_order_of_their_bytes(rt: HostRuntime) -> Result<(), Fail> {
+fn words_are_in_the_order_of_their_bytes(rt: HostRuntime) {
     let alloc = rt.alloc();
-    let word = Word::of(alloc, "left")?;
-    assert_eq!(rt; word.as_str(), "left");
-    assert_eq!(rt; word.as_slice(), b"left".as_slice());
-    assert!(rt; word == Word::of(alloc, "left")?);
-    for (before, after) in [("", "a"), ("a", "ab"), ("ab", "b"), ("B", "a")] {
-        assert!(rt;
-            Word::of(alloc, before)? < Word::of(alloc, after)?,
-            "{before} {after}"
-        );
+    is_its_text(&rt, alloc);
+    for (before, after) in &ASCENDING {
+        ascend(&rt, alloc, *before, *after);
     }
-    assert_eq!(rt;
-        Bytes::of(alloc, b"\x00\xff")?.as_slice(),
-        b"\x00\xff".as_slice()
-    );
-    Ok(())
+    let bytes = Bytes::of(alloc, b"\x00\xff").expect(&rt, "bytes");
+    are(&rt, bytes.as_slice(), b"\x00\xff");
 }

@@ -22,6 +22,3 @@ pub use reading::read;
 pub use recent::Recent;
 pub use renaming::rename;
 pub use writing::{put_stack, write};
-
-#[cfg(test)]
-mod tests;

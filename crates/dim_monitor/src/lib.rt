@@ -6,8 +6,6 @@ pub mod laws;
 mod monitor;
 pub mod search;
 mod stuck;
-#[cfg(test)]
-mod tests;
 
 pub use cycles::Cycles;
 pub use monitor::Monitor;

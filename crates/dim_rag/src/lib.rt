@@ -9,8 +9,6 @@ mod graph;
 mod journal;
 pub mod laws;
 mod tables;
-#[cfg(test)]
-mod tests;
 
 pub use births::Births;
 pub use command::{Command, Refusal, Reply};

@@ -9,6 +9,3 @@ mod sorting;
 pub use catalogue::{Add, Catalogue, change_law, number_law};
 pub use signature::{SigFault, Signature};
 pub use sorting::{sort_stacks, sorted_law};
-
-#[cfg(test)]
-mod tests;

@@ -14,9 +14,6 @@ pub use names::Names;
 pub use order::compare;
 use std::marker::Model;
 
-#[cfg(test)]
-mod tests;
-
 /// How many frames a stack has at most.
 pub const MOST_FRAMES: usize = 32;
 

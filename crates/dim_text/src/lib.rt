@@ -16,6 +16,3 @@ pub use parts::{Parts, frame_sides};
 pub use states::{state_in, state_word};
 pub use stop::Stop;
 pub use words::{is_word, one_word, two_words, unless};
-
-#[cfg(test)]
-mod tests;

@@ -29,8 +29,3 @@ pub use trace::{KeptTrace, Trace};
 pub use verdict::{Rule, Verdict};
 pub use words::lock_of;
 pub use writing::{write_tables, write_trace};
-
-#[cfg(test)]
-mod check_tests;
-#[cfg(test)]
-mod tests;

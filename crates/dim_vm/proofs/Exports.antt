@@ -12,3 +12,5 @@ pub use Rattle.dim_vm.proofs.OwnModes.{own_mode}
 pub use Rattle.dim_vm.proofs.OwnWalks.{own_walks}
 -- What a thread's own entries say of its holds and of its wish.
 pub use Rattle.dim_vm.proofs.OwnHolds.{own_holds}
+-- A Yield, and what it says of a list of own entries that ends with it.
+pub use Rattle.dim_vm.proofs.Words.{yield_yields, yields_last}

@@ -11,8 +11,6 @@ mod operands;
 mod rows;
 mod state;
 mod step;
-#[cfg(test)]
-mod tests;
 mod trap;
 
 pub use door::{Door, stops_after};

@@ -1,0 +1,9 @@
+//! Tests of machines over a door that follows a script, and of runs.
+#![tactic(auto)]
+
+#[cfg(test)]
+mod lives;
+#[cfg(test)]
+mod machines;
+#[cfg(test)]
+mod runs;
