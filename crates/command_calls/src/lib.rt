@@ -5,7 +5,6 @@
 mod around;
 pub mod large;
 mod meeting;
-pub mod programs;
 pub mod words;
 
 pub use around::{Around, called, driven, loaded, over, words_of};

@@ -1,7 +1,9 @@
 //! Texts that are cut off at each byte, and a history of which each byte is altered.
 use crate::calls::{call, done, lacks};
 use command_calls::Around;
-use command_calls::programs::{LEARNT, LEARNT_BEFORE, SMALLEST, SMALLEST_TRACE};
+use sample_texts::histories::{LEARNT, LEARNT_BEFORE};
+use sample_texts::programs::SMALLEST;
+use sample_texts::traces;
 use std::alloc::Global;
 use std::process::Abort;
 use std::sync::Wait;
@@ -56,7 +58,12 @@ fn broken<R: Abort + Threads + Wait + Sync>(
     words: &str,
     file: (&str, &[u8]),
 ) -> Around {
-    let given = [("p", SMALLEST), ("g", LEARNT), ("t", SMALLEST_TRACE), file];
+    let given = [
+        ("p", SMALLEST),
+        ("g", LEARNT),
+        ("t", traces::SMALLEST),
+        file,
+    ];
     call(rt, alloc, words, &given)
 }
 
@@ -100,7 +107,7 @@ fn a_text_may_be_cut_off_anywhere(rt: HostRuntime) {
     let old = ("g", LEARNT_BEFORE);
     cut_off(&rt, alloc, "switch g 0 off h", old, 6, &OLD_HISTORY_CUTS);
     cut_off(&rt, alloc, "run p g h s", history, 6, &HISTORY_CUTS);
-    let trace = ("t", SMALLEST_TRACE);
+    let trace = ("t", traces::SMALLEST);
     cut_off(&rt, alloc, "check p - t", trace, 13, &TRACE_CUTS);
     let program = ("p", SMALLEST);
     cut_off(&rt, alloc, "run p - h s", program, 5, &PROGRAM_CUTS);

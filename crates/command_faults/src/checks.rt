@@ -2,9 +2,9 @@
 
 use crate::calls::{answers, call, call_after, done, ended, failing, says};
 use command_calls::Around;
-use command_calls::programs::{
-    CHAINED, CROSSED, INTERLEAVED, LEARNT, PLAIN, SMALLEST, SMALLEST_TRACE,
-};
+use sample_texts::histories::{INTERLEAVED, LEARNT};
+use sample_texts::programs::{CHAINED, CROSSED, PLAIN, SMALLEST};
+use sample_texts::traces;
 use std::alloc::Global;
 use std::process::Abort;
 use std::sync::Wait;
@@ -15,25 +15,10 @@ const CHECK: &str = "check p g t";
 // A check with no history.
 const ALONE: &str = "check p - t";
 
-const AVOIDED: &[u8] =
-    b"dim trace 1\nsettings 8192 4\ngo 0 a left:0\ngot 0 a\nyield 1 b 0 2 0 2 right:0\ngo 0 b left:1\ngot 0 b\nfree 0 b\nfree 0 a\ngo 1 b right:0\ngot 1 b\ndone 0\ngo 1 a right:1\ngot 1 a\nfree 1 a\nfree 1 b\ndone 1\nend 15\n";
-
 const GRANTED: &[u8] =
     b"dim trace 1\nsettings 8192 4\ngo 0 a left:0\ngot 0 a\ngo 1 b right:0\ngo 0 b left:1\ngot 0 b\nfree 0 b\nfree 0 a\ngo 1 b right:0\ngot 1 b\ndone 0\ngo 1 a right:1\ngot 1 a\nfree 1 a\nfree 1 b\ndone 1\nend 15\n";
 
-const UNLEARNT: &[u8] =
-    b"dim trace 1\nsettings 8192 4\ngo 0 a left:0\ngot 0 a\ngo 1 b right:0\ngot 1 b\ngo 0 b left:1\ngo 1 a right:1\nend 6\n";
-
-const STARVED: &[u8] =
-    b"dim trace 1\nsettings 8192 4\ngo 0 a left:0\ngot 0 a\ngo 1 c right:0\ngot 1 c\ngo 0 c left:1\nyield 1 b 0 2 0 5 right:1\nlearn 2 0 2\nbreak 3 1\ngot 1 b\nfree 1 b\nfree 1 c\ndone 1\ngot 0 c\nfree 0 c\nfree 0 a\ndone 0\nend 16\n";
-
-const BROKEN_UNLEARNT: &[u8] =
-    b"dim trace 1\nsettings 8192 4\ngo 0 a left:0\ngot 0 a\ngo 1 c right:0\ngot 1 c\ngo 0 c left:1\nyield 1 b 0 2 0 5 right:1\nbreak 3 1\ngot 1 b\nfree 1 b\nfree 1 c\ndone 1\ngot 0 c\nfree 0 c\nfree 0 a\ndone 0\nend 15\n";
-
 const SPENT: &[u8] = b"dim trace 1\nsettings 8192 4\ngo 0 a main:2\ngot 0 a\nspent 0\nend 3\n";
-
-const SPENT_WITH_FOUR: &[u8] =
-    b"dim trace 1\nsettings 4 4\ngo 0 a main:2\ngot 0 a\nspent 0\nend 3\n";
 
 const MISCOUNTED: &[u8] = b"dim trace 1\nsettings 8192 4\ndone 0\nend 2\n";
 
@@ -54,8 +39,8 @@ fn is_checked<R: Abort + Threads + Wait + Sync>(rt: &R, alloc: Global, row: &Row
 }
 
 const EXECUTED: [Row; 2] = [
-    (CHECK, CROSSED, LEARNT, AVOIDED, 0, "yes 15\n"),
-    (ALONE, PLAIN, LEARNT, SPENT_WITH_FOUR, 0, "yes 3\n"),
+    (CHECK, CROSSED, LEARNT, traces::AVOIDED, 0, "yes 15\n"),
+    (ALONE, PLAIN, LEARNT, traces::SPENT, 0, "yes 3\n"),
 ];
 
 #[test]
@@ -67,7 +52,14 @@ fn a_trace_executes_its_program(rt: HostRuntime) {
 
 const BREAKING: [Row; 3] = [
     (CHECK, CROSSED, LEARNT, GRANTED, 11, "no 2 legal\n"),
-    (ALONE, CROSSED, LEARNT, UNLEARNT, 11, "no 6 settled\n"),
+    (
+        ALONE,
+        CROSSED,
+        LEARNT,
+        traces::UNLEARNT,
+        11,
+        "no 6 settled\n",
+    ),
     (ALONE, PLAIN, LEARNT, SPENT, 11, "no 2 walk\n"),
 ];
 
@@ -79,12 +71,12 @@ fn a_trace_breaks_a_rule(rt: HostRuntime) {
 }
 
 const STARVING: [Row; 2] = [
-    (CHECK, CHAINED, INTERLEAVED, STARVED, 0, "yes 16\n"),
+    (CHECK, CHAINED, INTERLEAVED, traces::STARVED, 0, "yes 16\n"),
     (
         CHECK,
         CHAINED,
         INTERLEAVED,
-        BROKEN_UNLEARNT,
+        traces::STARVED_UNLEARNT,
         11,
         "no 6 legal\n",
     ),
@@ -147,7 +139,7 @@ fn the_run_of_a_generated_program_is_checked(rt: HostRuntime) {
     is_executed(&rt, rt.alloc(), run, ALONE, "yes 123\n");
 }
 
-const GOOD: [(&str, &[u8]); 3] = [("p", SMALLEST), ("g", LEARNT), ("t", SMALLEST_TRACE)];
+const GOOD: [(&str, &[u8]); 3] = [("p", SMALLEST), ("g", LEARNT), ("t", traces::SMALLEST)];
 
 // Words, the calls on good files that fail, the status, and what is put.
 type Judged = (&'static str, &'static [u32], u8, &'static str);

@@ -1,14 +1,16 @@
 //! Each call outside fails once, and each file is absent once.
 use crate::calls::{done, ended, failing, keeps, keeps_front, refuses, says};
 use command_calls::Around;
-use command_calls::programs::{EMPTY, SMALLEST, SMALLEST_TRACE};
+use sample_texts::histories::EMPTY;
+use sample_texts::programs::SMALLEST;
+use sample_texts::traces;
 use std::alloc::Global;
 use std::process::Abort;
 use std::sync::Wait;
 use std::thread::Threads;
 
 // Good files.
-const GOOD: [(&str, &[u8]); 3] = [("p", SMALLEST), ("g", EMPTY), ("t", SMALLEST_TRACE)];
+const GOOD: [(&str, &[u8]); 3] = [("p", SMALLEST), ("g", EMPTY), ("t", traces::SMALLEST)];
 
 // Words, the call on files that fails, the line that is put, and how much of the new history h and of the trace s is there then.
 type Fault = (&'static str, u32, &'static str, usize, usize);
@@ -36,7 +38,7 @@ fn is_told<R: Abort + Threads + Wait + Sync>(rt: &R, alloc: Global, fault: &Faul
     let after = failing(rt, alloc, words, &GOOD, &[place], &[]);
     says(rt, &after, words, 7, put);
     keeps_front(rt, alloc, &after, "h", EMPTY, history);
-    keeps_front(rt, alloc, &after, "s", SMALLEST_TRACE, trace);
+    keeps_front(rt, alloc, &after, "s", traces::SMALLEST, trace);
     done(after);
 }
 
@@ -96,7 +98,7 @@ fn ends_unheard<R: Abort + Threads + Wait + Sync>(rt: &R, alloc: Global, words: 
 fn live_has_stored<R: Abort + Threads + Wait + Sync>(rt: &R, alloc: Global) {
     let after = unheard(rt, alloc, "live p g h s");
     keeps(rt, alloc, &after, "h", EMPTY);
-    keeps(rt, alloc, &after, "s", SMALLEST_TRACE);
+    keeps(rt, alloc, &after, "s", traces::SMALLEST);
     done(after);
 }
 

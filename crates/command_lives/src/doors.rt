@@ -2,13 +2,13 @@
 use crate::calls::files_of;
 use crate::reports::{as_text, sum_at};
 use crate::seats::{begin, finish, seat_of};
-use command_calls::programs::CROSSED;
 use command_calls::{MeetingHouse, words_of};
 use dim_asm::{Program, assemble};
 use dim_base::{MemSink, OutOfMemory};
 use dim_cli::drive;
 use dim_gate::GateState;
 use dim_run::{House, work_round};
+use sample_texts::programs::CROSSED;
 use std::alloc::Global;
 use std::process::Abort;
 use std::sync::Wait;

@@ -3,10 +3,10 @@
 use crate::calls::{call, call_after, call_failing, done, keeps};
 use crate::reports::as_text;
 use command_calls::Around;
-use command_calls::programs::SMALLEST;
 use command_calls::words::RUN;
 use dim_base::Bytes;
 use dim_cli::generated;
+use sample_texts::programs::SMALLEST;
 use std::alloc::Global;
 use std::process::Abort;
 use std::sync::Wait;

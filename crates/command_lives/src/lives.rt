@@ -3,25 +3,24 @@
 use crate::calls::{call, call_failing, done, files_of, held, keeps, succeeds_after};
 use crate::reports::{as_text, lines_with};
 use command_calls::large::{crowd, crowd_history};
-use command_calls::programs::{CROSSED, EMPTY, LEARNT, SMALLEST, SMALLEST_TRACE};
 use command_calls::words::{CHECK, LIVE, RUN};
 use command_calls::{Around, loaded, words_of};
 use dim_base::MemSink;
 use dim_cli::quiet;
+use sample_texts::histories::{EMPTY, LEARNT};
+use sample_texts::programs::{CROSSED, SMALLEST};
+use sample_texts::{reports, traces};
 use std::alloc::Global;
 use std::process::Abort;
 use std::sync::Wait;
 use std::thread::Threads;
 
-const SMALLEST_REPORT: &[u8] =
-    b"outcome finished\nentries 1\ngo 0\nyield 0\ngot 0\nfree 0\ntook 0\nmiss 0\nend 1\nbreak 0\nlearn 0\nsignatures 0\nthread 0 done said 0 last 0\n";
-
 #[test]
 fn the_smallest_program_lives_as_it_runs(rt: HostRuntime) {
     let after = call(&rt, rt.alloc(), &LIVE, SMALLEST);
-    assert!(rt; after.says(0, SMALLEST_REPORT));
+    assert!(rt; after.says(0, reports::SMALLEST));
     keeps(&rt, rt.alloc(), &after, "h", EMPTY);
-    keeps(&rt, rt.alloc(), &after, "t", SMALLEST_TRACE);
+    keeps(&rt, rt.alloc(), &after, "t", traces::SMALLEST);
     assert!(rt; after.passed == 1);
     done(after);
 }

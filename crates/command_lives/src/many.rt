@@ -1,12 +1,13 @@
 //! Many live runs, each checked.
 use crate::calls::{call, call_after, held, succeeds_after};
 use crate::reports::{as_text, lines_with, number_at};
-use command_calls::programs::{
-    CHAINED, CROSSED, EMPTY, ENDS_HOLDING, FIRST_FRAMES, FIVE_FORKS, INTERLEAVED, LEADS_ON, LEARNT,
-    ONE_AGAINST_TWO, PHILOSOPHERS, SMALLEST, THREE_CROSSED,
-};
 use command_calls::words::{CHECK, CHECK_ALONE};
 use command_calls::{Around, loaded};
+use sample_texts::histories::{EMPTY, FIRST_FRAMES, FIVE_FORKS, INTERLEAVED, LEARNT};
+use sample_texts::programs::{
+    CHAINED, CROSSED, ENDS_HOLDING, LEADS_ON, ONE_AGAINST_TWO, PHILOSOPHERS, SMALLEST,
+    THREE_CROSSED,
+};
 use std::alloc::Global;
 use std::process::Abort;
 use std::sync::Wait;

@@ -2,9 +2,11 @@
 use crate::leaving::Wanted::{Front, Whole};
 use crate::leaving::{Left, NOTHING_MORE, has_left, leaves, leaves_alone, spends};
 use command_calls::large::{crowd, crowd_history, many_signatures_before};
-use command_calls::programs::{CROSSED, EMPTY, LEARNT, NEVER_FREED, PLAIN};
 use command_calls::words::{SHORT_SLICES, SHORT_SLICES_ALONE};
 use command_calls::{Around, loaded, over};
+use sample_texts::histories::{EMPTY, LEARNT};
+use sample_texts::programs::{CROSSED, NEVER_FREED, PLAIN};
+use sample_texts::traces;
 use std::alloc::{AllocError, Global};
 use std::fmt::Write;
 use std::process::Abort;
@@ -125,9 +127,7 @@ fn the_largest_history_learns(rt: HostRuntime) {
     let after = run_with_the_largest(&rt, rt.alloc());
     let left = Left {
         status: 3,
-        trace: Whole(
-            b"dim trace 1\nsettings 8192 4\ngo 0 a left:0\ngot 0 a\ngo 1 b right:0\ngot 1 b\ngo 0 b left:1\ngo 1 a right:1\nlearn 2 0 2\nend 7\n",
-        ),
+        trace: Whole(traces::LEARNT),
         ..NOTHING_MORE
     };
     has_left(&rt, rt.alloc(), &SHORT_SLICES, &after, left);

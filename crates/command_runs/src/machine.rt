@@ -1,11 +1,12 @@
 //! What the machine does.
 use crate::leaving::Wanted::{Front, Whole};
 use crate::leaving::{Left, NOTHING_MORE, leaves, leaves_alone, spends};
-use command_calls::programs::{
-    EMPTY, FIVE_FORKS, FIVE_FORKS_AVOIDED, MATCHED_BY_FOUR, MATCHED_BY_ONE, NESTED, PHILOSOPHERS,
-    PLAIN, TAKEN_TWICE, TRAPPED, TRIES,
-};
 use command_calls::words::{RUN, SHORT_SLICES_ALONE};
+use sample_texts::histories::{
+    EMPTY, FIVE_FORKS, FIVE_FORKS_AVOIDED, MATCHED_BY_FOUR, MATCHED_BY_ONE,
+};
+use sample_texts::programs::{NESTED, PHILOSOPHERS, PLAIN, TAKEN_TWICE, TRAPPED, TRIES};
+use sample_texts::traces;
 
 const SLICES_OF_4_ALONE: [&str; 7] = ["run", "p", "-", "h", "t", "--quantum", "4"];
 
@@ -110,10 +111,7 @@ fn a_lock_is_free_when_it_was_given_back_as_often(rt: HostRuntime) {
 // The fuel of the one thread of `PLAIN`, and the trace.
 const UNITS: [(&str, &[u8]); 4] = [
     ("3", b"dim trace 1\nsettings 3 4\nspent 0\nend 1\n"),
-    (
-        "4",
-        b"dim trace 1\nsettings 4 4\ngo 0 a main:2\ngot 0 a\nspent 0\nend 3\n",
-    ),
+    ("4", traces::SPENT),
     (
         "5",
         b"dim trace 1\nsettings 5 4\ngo 0 a main:2\ngot 0 a\nfree 0 a\nspent 0\nend 4\n",

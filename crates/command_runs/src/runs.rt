@@ -2,11 +2,12 @@
 
 use crate::leaving::Wanted::Whole;
 use crate::leaving::{Left, NOTHING_MORE, leaves, leaves_alone};
-use command_calls::programs::{
-    AVOIDED, CHAINED, CROSSED, EMPTY, ENDS_HOLDING, INTERLEAVED, LEADS_ON, LEARNT, LEARNT_BEFORE,
-    NEVER_FREED, SMALLEST, SWITCHED_OFF,
-};
 use command_calls::words::{RUN, SHORT_SLICES, SHORT_SLICES_ALONE};
+use sample_texts::histories::{
+    AVOIDED, EMPTY, INTERLEAVED, LEARNT, LEARNT_BEFORE, MOST_YIELDS, SWITCHED_OFF,
+};
+use sample_texts::programs::{CHAINED, CROSSED, ENDS_HOLDING, LEADS_ON, NEVER_FREED, SMALLEST};
+use sample_texts::{reports, traces};
 
 #[test]
 fn a_thread_may_do_all_in_one_slice(rt: HostRuntime) {
@@ -24,11 +25,9 @@ fn a_thread_may_do_all_in_one_slice(rt: HostRuntime) {
 fn the_smallest_run_stores_both_files(rt: HostRuntime) {
     let left = Left {
         status: 0,
-        report: Whole(
-            b"outcome finished\nentries 1\ngo 0\nyield 0\ngot 0\nfree 0\ntook 0\nmiss 0\nend 1\nbreak 0\nlearn 0\nsignatures 0\nthread 0 done said 0 last 0\n",
-        ),
+        report: Whole(reports::SMALLEST),
         history: Whole(EMPTY),
-        trace: Whole(b"dim trace 1\nsettings 8192 4\ndone 0\nend 1\n"),
+        trace: Whole(traces::SMALLEST),
     };
     leaves_alone(&rt, rt.alloc(), &RUN, SMALLEST, left);
 }
@@ -56,9 +55,7 @@ fn a_first_deadlock_is_learnt(rt: HostRuntime) {
             b"outcome deadlocked\nentries 7\ngo 4\nyield 0\ngot 2\nfree 0\ntook 0\nmiss 0\nend 0\nbreak 0\nlearn 1\nsignatures 1\nthread 0 waits b said 0 last 0\nthread 1 waits a said 0 last 0\n",
         ),
         history: Whole(LEARNT),
-        trace: Whole(
-            b"dim trace 1\nsettings 8192 4\ngo 0 a left:0\ngot 0 a\ngo 1 b right:0\ngot 1 b\ngo 0 b left:1\ngo 1 a right:1\nlearn 2 0 2\nend 7\n",
-        ),
+        trace: Whole(traces::LEARNT),
     };
     leaves_alone(&rt, rt.alloc(), &SHORT_SLICES_ALONE, CROSSED, left);
 }
@@ -71,9 +68,7 @@ fn a_deadlock_that_is_known_is_avoided(rt: HostRuntime) {
             b"outcome finished\nentries 15\ngo 4\nyield 1\ngot 4\nfree 4\ntook 0\nmiss 0\nend 2\nbreak 0\nlearn 0\nsignatures 1\nthread 0 done said 0 last 0\nthread 1 done said 0 last 0\n",
         ),
         history: Whole(AVOIDED),
-        trace: Whole(
-            b"dim trace 1\nsettings 8192 4\ngo 0 a left:0\ngot 0 a\nyield 1 b 0 2 0 2 right:0\ngo 0 b left:1\ngot 0 b\nfree 0 b\nfree 0 a\ngo 1 b right:0\ngot 1 b\ndone 0\ngo 1 a right:1\ngot 1 a\nfree 1 a\nfree 1 b\ndone 1\nend 15\n",
-        ),
+        trace: Whole(traces::AVOIDED),
     };
     leaves(&rt, rt.alloc(), &SHORT_SLICES, CROSSED, LEARNT_BEFORE, left);
 }
@@ -88,15 +83,11 @@ fn a_deadlock_that_is_switched_off_comes_again(rt: HostRuntime) {
     let left = Left {
         status: 3,
         history: Whole(SWITCHED_OFF),
-        trace: Whole(
-            b"dim trace 1\nsettings 8192 4\ngo 0 a left:0\ngot 0 a\ngo 1 b right:0\ngot 1 b\ngo 0 b left:1\ngo 1 a right:1\nend 6\n",
-        ),
+        trace: Whole(traces::UNLEARNT),
         ..NOTHING_MORE
     };
     leaves(&rt, rt.alloc(), &SHORT_SLICES, CROSSED, SWITCHED_OFF, left);
 }
-
-const MOST_YIELDS: &[u8] = b"dim history 2\nsignature 4 2 on 4294967295\nleft:0\nright:0\nend 1\n";
 
 const ONE_YIELD_LESS: &[u8] =
     b"dim history 2\nsignature 4 2 on 4294967294\nleft:0\nright:0\nend 1\n";
@@ -124,9 +115,7 @@ fn a_starvation_is_learnt_and_broken_out(rt: HostRuntime) {
     let left = Left {
         status: 0,
         history: Whole(STARVED),
-        trace: Whole(
-            b"dim trace 1\nsettings 8192 4\ngo 0 a left:0\ngot 0 a\ngo 1 c right:0\ngot 1 c\ngo 0 c left:1\nyield 1 b 0 2 0 5 right:1\nlearn 2 0 2\nbreak 3 1\ngot 1 b\nfree 1 b\nfree 1 c\ndone 1\ngot 0 c\nfree 0 c\nfree 0 a\ndone 0\nend 16\n",
-        ),
+        trace: Whole(traces::STARVED),
         ..NOTHING_MORE
     };
     leaves(&rt, rt.alloc(), &SHORT_SLICES, CHAINED, INTERLEAVED, left);
@@ -167,9 +156,7 @@ fn a_signature_that_names_no_function_is_kept(rt: HostRuntime) {
         history: Whole(
             b"dim history 2\nsignature 7 2 on 0\nlost:3\nzoo:0\nsignature 4 2 on 0\nleft:0\nright:0\nend 2\n",
         ),
-        trace: Whole(
-            b"dim trace 1\nsettings 8192 4\ngo 0 a left:0\ngot 0 a\ngo 1 b right:0\ngot 1 b\ngo 0 b left:1\ngo 1 a right:1\nlearn 2 0 2\nend 7\n",
-        ),
+        trace: Whole(traces::LEARNT),
         ..NOTHING_MORE
     };
     leaves(

@@ -3,48 +3,14 @@ ghost use Rattle.std.specs.Prelude.{◌≡◌, ◌+◌, ◌≤◌, length};
 ghost use Rattle.dim_rag.specs.History.{past};
 ghost use Rattle.dim_rag.specs.Born.{all_edges};
 
+use crate::entries::{free, go, got, left, took};
 use dim_base::{Lid, Tid};
 use dim_cover::{Index, first_cover};
 use dim_rag::{Births, Edge, Entry, Named, Tables};
 use dim_signature::{Catalogue, Signature};
-use dim_stack::{Frame, Stack};
+use dim_stack::Stack;
 use std::alloc::Global;
 use std::process::Abort;
-
-/// A stack of one frame.
-fn stack_at(at: u32) -> Stack {
-    Stack::new(&[Frame { func: 0, at }])
-}
-
-fn took(t: u32, l: u32, at: u32) -> Entry {
-    Entry::Took {
-        t: Tid(t),
-        l: Lid(l),
-        stack: stack_at(at),
-    }
-}
-
-fn go(t: u32, l: u32, at: u32) -> Entry {
-    Entry::Go {
-        t: Tid(t),
-        l: Lid(l),
-        stack: stack_at(at),
-    }
-}
-
-fn got(t: u32, l: u32) -> Entry {
-    Entry::Got {
-        t: Tid(t),
-        l: Lid(l),
-    }
-}
-
-fn free(t: u32, l: u32) -> Entry {
-    Entry::Free {
-        t: Tid(t),
-        l: Lid(l),
-    }
-}
 
 /// Adds a signature of depth 1 that is switched on or off.
 fn add(rt: &impl Abort, alloc: Global, catalogue: &mut Catalogue, stacks: &[Stack], on: bool) {
@@ -86,7 +52,7 @@ fn named(catalogue: &Catalogue, tables: &Tables, t: u32, l: u32, at: u32) -> Opt
     let new_edge = Edge {
         t: Tid(t),
         l: Lid(l),
-        stack: stack_at(at),
+        stack: left(at),
         birth: tables.len(),
     };
     first_cover(catalogue, tables, &new_edge)
@@ -121,13 +87,13 @@ fn drop_tables(_tables: Tables) {}
 
 #[test]
 fn the_least_births_are_named(rt: HostRuntime) {
-    let stacks = [stack_at(1), stack_at(1), stack_at(2)];
+    let stacks = [left(1), left(1), left(2)];
     let catalogue = catalogue_of(&rt, rt.alloc(), &stacks);
     let mut tables = new_tables(&rt, rt.alloc(), 4, 4);
-    append(&rt, &mut tables, &took(0, 0, 1));
-    append(&rt, &mut tables, &took(0, 1, 1));
-    append(&rt, &mut tables, &took(1, 2, 2));
-    append(&rt, &mut tables, &go(2, 3, 1));
+    append(&rt, &mut tables, &took(0, 0, left(1)));
+    append(&rt, &mut tables, &took(0, 1, left(1)));
+    append(&rt, &mut tables, &took(1, 2, left(2)));
+    append(&rt, &mut tables, &go(2, 3, left(1)));
     has(&rt, &tables, 4);
 
     names(&rt, &catalogue, &tables, 3, 3, 1, cover_of(0, &[0, 4, 2]));
@@ -143,20 +109,20 @@ fn the_least_births_are_named(rt: HostRuntime) {
 fn take_all(rt: &impl Abort, tables: &mut Tables, locks: u32, each: u32) {
     assert!(rt; 1 <= each);
     for l in 0..locks {
-        append(rt, tables, &took(l / each, l, 0));
+        append(rt, tables, &took(l / each, l, left(0)));
     }
 }
 
 /// Lets the threads 6 to 30 ask for a lock.
 fn ask_all(rt: &impl Abort, tables: &mut Tables, l: u32) {
     for t in 6..31 {
-        append(rt, tables, &go(t, l, 0));
+        append(rt, tables, &go(t, l, left(0)));
     }
 }
 
 #[test]
 fn few_disjoint_pairs_are_seen_at_once(rt: HostRuntime) {
-    let catalogue = catalogue_of(&rt, rt.alloc(), &[stack_at(0); 12]);
+    let catalogue = catalogue_of(&rt, rt.alloc(), &[left(0); 12]);
     let mut tables = new_tables(&rt, rt.alloc(), 32, 40);
     take_all(&rt, &mut tables, 36, 6);
     ask_all(&rt, &mut tables, 36);
@@ -169,20 +135,8 @@ fn few_disjoint_pairs_are_seen_at_once(rt: HostRuntime) {
 /// Two signatures of depth 1, of stacks 1 and 2 and of stacks 1 and 3, each switched on or off.
 fn two_signatures(rt: &impl Abort, alloc: Global, first: bool, second: bool) -> Catalogue {
     let mut catalogue = Catalogue::new(alloc);
-    add(
-        rt,
-        alloc,
-        &mut catalogue,
-        &[stack_at(1), stack_at(2)],
-        first,
-    );
-    add(
-        rt,
-        alloc,
-        &mut catalogue,
-        &[stack_at(1), stack_at(3)],
-        second,
-    );
+    add(rt, alloc, &mut catalogue, &[left(1), left(2)], first);
+    add(rt, alloc, &mut catalogue, &[left(1), left(3)], second);
     catalogue
 }
 
@@ -202,8 +156,8 @@ fn names_of_two(
 #[test]
 fn a_signature_that_is_switched_off_is_not_named(rt: HostRuntime) {
     let mut tables = new_tables(&rt, rt.alloc(), 3, 3);
-    append(&rt, &mut tables, &took(0, 0, 2));
-    append(&rt, &mut tables, &took(1, 1, 3));
+    append(&rt, &mut tables, &took(0, 0, left(2)));
+    append(&rt, &mut tables, &took(1, 1, left(3)));
     has(&rt, &tables, 2);
     names_of_two(&rt, rt.alloc(), &tables, true, true, cover_of(0, &[2, 0]));
     names_of_two(&rt, rt.alloc(), &tables, false, true, cover_of(1, &[2, 1]));
@@ -214,19 +168,19 @@ fn a_signature_that_is_switched_off_is_not_named(rt: HostRuntime) {
 /// Lets threads take a lock through one stack and a lock through another, and four more ask through a third.
 fn take_two_each(rt: &impl Abort, tables: &mut Tables, threads: u32) {
     for t in 0..threads.min(20) {
-        append(rt, tables, &took(t, 2 * t, 1));
-        append(rt, tables, &took(t, 2 * t + 1, 2));
+        append(rt, tables, &took(t, 2 * t, left(1)));
+        append(rt, tables, &took(t, 2 * t + 1, left(2)));
     }
     for k in 0..4 {
-        append(rt, tables, &go(threads.min(20) + k, 40 + k, 3));
+        append(rt, tables, &go(threads.min(20) + k, 40 + k, left(3)));
     }
 }
 
 /// So many stacks of the first kind, as many of the second, and two of the third.
 fn of_three_kinds(rt: &impl Abort, alloc: Global, many: u32) -> Catalogue {
-    let mut stacks = [stack_at(3); 22];
+    let mut stacks = [left(3); 22];
     for k in 0..20u32 {
-        stacks[k as usize] = stack_at(1 + k % 2);
+        stacks[k as usize] = left(1 + k % 2);
     }
     let all = &stacks[..];
     catalogue_of(rt, alloc, &all[20 - 2 * many.min(10) as usize..])
@@ -253,16 +207,16 @@ fn few_threads_of_two_kinds_are_seen_at_once(rt: HostRuntime) {
 /// Lets threads ask for few locks through two stacks, and eight more each for a lock of its own through two others.
 fn ask_for_few(rt: &impl Abort, tables: &mut Tables) {
     for t in 0..20 {
-        append(rt, tables, &go(t, t % 5, 1 + t / 10));
+        append(rt, tables, &go(t, t % 5, left(1 + t / 10)));
     }
     for t in 20..28 {
-        append(rt, tables, &go(t, t, 3 + t % 2));
+        append(rt, tables, &go(t, t, left(3 + t % 2)));
     }
 }
 
 #[test]
 fn few_locks_of_two_kinds_are_seen_at_once(rt: HostRuntime) {
-    let (a, b, c, d) = (stack_at(1), stack_at(2), stack_at(3), stack_at(4));
+    let (a, b, c, d) = (left(1), left(2), left(3), left(4));
     let catalogue = catalogue_of(&rt, rt.alloc(), &[a, a, a, b, b, b, c, c, d, d]);
     let mut tables = new_tables(&rt, rt.alloc(), 32, 40);
     ask_for_few(&rt, &mut tables);
@@ -275,7 +229,7 @@ fn few_locks_of_two_kinds_are_seen_at_once(rt: HostRuntime) {
 
 #[test]
 fn a_cover_of_many_threads_is_found_at_once(rt: HostRuntime) {
-    let catalogue = catalogue_of(&rt, rt.alloc(), &[stack_at(0); 12]);
+    let catalogue = catalogue_of(&rt, rt.alloc(), &[left(0); 12]);
     let mut tables = new_tables(&rt, rt.alloc(), 32, 40);
     take_all(&rt, &mut tables, 33, 3);
     let cover = cover_of(0, &[0, 3, 6, 9, 12, 15, 18, 21, 24, 27, 30, 33]);
@@ -312,7 +266,7 @@ fn grow(rt: &impl Abort, tables: &mut Tables, index: &mut Index, e: &Entry)
 
 /// So many edges agree with a stack at depth 4, with these births.
 fn agree(rt: &impl Abort, index: &Index, at: u32, births: &[u32]) {
-    let stack = stack_at(at);
+    let stack = left(at);
     let mut out = [0; 288];
     let count = index.agreeing(4, &stack, &mut out);
     assert!(rt; index.count(4, &stack) == count);
@@ -325,9 +279,9 @@ fn drop_index(_index: Index) {}
 #[test]
 fn a_free_leaves_the_other_edges(rt: HostRuntime) {
     let (mut tables, mut index) = fresh(&rt, rt.alloc(), 2);
-    grow(&rt, &mut tables, &mut index, &go(0, 0, 0));
+    grow(&rt, &mut tables, &mut index, &go(0, 0, left(0)));
     grow(&rt, &mut tables, &mut index, &got(0, 0));
-    grow(&rt, &mut tables, &mut index, &go(1, 1, 0));
+    grow(&rt, &mut tables, &mut index, &go(1, 1, left(0)));
     has(&rt, &tables, 3);
     agree(&rt, &index, 0, &[0, 2]);
     grow(&rt, &mut tables, &mut index, &free(0, 0));
@@ -339,9 +293,9 @@ fn a_free_leaves_the_other_edges(rt: HostRuntime) {
 #[test]
 fn a_thread_that_frees_one_lock_holds_the_other(rt: HostRuntime) {
     let (mut tables, mut index) = fresh(&rt, rt.alloc(), 1);
-    grow(&rt, &mut tables, &mut index, &go(0, 0, 0));
+    grow(&rt, &mut tables, &mut index, &go(0, 0, left(0)));
     grow(&rt, &mut tables, &mut index, &got(0, 0));
-    grow(&rt, &mut tables, &mut index, &go(0, 1, 0));
+    grow(&rt, &mut tables, &mut index, &go(0, 1, left(0)));
     grow(&rt, &mut tables, &mut index, &got(0, 1));
     grow(&rt, &mut tables, &mut index, &free(0, 0));
     has(&rt, &tables, 5);
@@ -353,8 +307,8 @@ fn a_thread_that_frees_one_lock_holds_the_other(rt: HostRuntime) {
 #[test]
 fn a_lock_held_twice_has_one_edge(rt: HostRuntime) {
     let (mut tables, mut index) = fresh(&rt, rt.alloc(), 1);
-    grow(&rt, &mut tables, &mut index, &took(0, 0, 0));
-    grow(&rt, &mut tables, &mut index, &took(0, 0, 1));
+    grow(&rt, &mut tables, &mut index, &took(0, 0, left(0)));
+    grow(&rt, &mut tables, &mut index, &took(0, 0, left(1)));
     has(&rt, &tables, 2);
     agree(&rt, &index, 0, &[0]);
     agree(&rt, &index, 1, &[]);

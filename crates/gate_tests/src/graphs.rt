@@ -1,5 +1,6 @@
 ghost use Rattle.std.specs.Prelude.{◌≤◌, length};
 
+use crate::entries::{free, go, got, left, right, took, yielded};
 use dim_base::{Lid, Tid};
 use dim_rag::{Births, Edge, Entry, MissWhy, Mode, Named, Tables, Why, same_entry};
 use dim_stack::{Frame, Stack};
@@ -12,49 +13,6 @@ const B: u32 = 1;
 
 const C: u32 = 2;
 
-/// A stack of one frame of the function `left`.
-fn left(at: u32) -> Stack {
-    Stack::new(&[Frame { func: 0, at }])
-}
-
-/// A stack of one frame of the function `right`.
-fn right(at: u32) -> Stack {
-    Stack::new(&[Frame { func: 1, at }])
-}
-
-fn go(t: u32, l: u32, stack: Stack) -> Entry {
-    Entry::Go {
-        t: Tid(t),
-        l: Lid(l),
-        stack,
-    }
-}
-
-/// A Yield because of a cover of signature 0 with these births.
-fn yielded(t: u32, l: u32, births: [u32; 2], stack: Stack) -> Entry {
-    Entry::Yield {
-        t: Tid(t),
-        l: Lid(l),
-        stack,
-        sig: 0,
-        births: Births::new(&births),
-    }
-}
-
-fn got(t: u32, l: u32) -> Entry {
-    Entry::Got {
-        t: Tid(t),
-        l: Lid(l),
-    }
-}
-
-fn free(t: u32, l: u32) -> Entry {
-    Entry::Free {
-        t: Tid(t),
-        l: Lid(l),
-    }
-}
-
 /// A stack of three frames, of which this is the place in the innermost.
 fn deep(at: u32) -> Stack {
     Stack::new(&[
@@ -62,14 +20,6 @@ fn deep(at: u32) -> Stack {
         Frame { func: 1, at: 8 },
         Frame { func: 0, at },
     ])
-}
-
-fn took(t: u32, l: u32, stack: Stack) -> Entry {
-    Entry::Took {
-        t: Tid(t),
-        l: Lid(l),
-        stack,
-    }
 }
 
 /// A miss of a try, with a stack of three frames.

@@ -4,6 +4,8 @@
 #[cfg(test)]
 mod covers;
 #[cfg(test)]
+mod entries;
+#[cfg(test)]
 mod gates;
 #[cfg(test)]
 mod graphs;

@@ -1,7 +1,7 @@
-use dim_base::{Lid, Tid};
+use crate::entries::{free, go, got, left, right, took, yielded};
+use dim_base::Tid;
 use dim_monitor::Monitor;
 use dim_rag::{Births, Entry};
-use dim_stack::{Frame, Stack};
 use std::alloc::Global;
 use std::process::Abort;
 
@@ -12,57 +12,6 @@ const B: u32 = 1;
 const C: u32 = 2;
 
 const D: u32 = 3;
-
-/// A stack of one frame of the function `left`.
-fn left(at: u32) -> Stack {
-    Stack::new(&[Frame { func: 0, at }])
-}
-
-/// A stack of one frame of the function `right`.
-fn right(at: u32) -> Stack {
-    Stack::new(&[Frame { func: 1, at }])
-}
-
-fn go(t: u32, l: u32, stack: Stack) -> Entry {
-    Entry::Go {
-        t: Tid(t),
-        l: Lid(l),
-        stack,
-    }
-}
-
-fn got(t: u32, l: u32) -> Entry {
-    Entry::Got {
-        t: Tid(t),
-        l: Lid(l),
-    }
-}
-
-fn took(t: u32, l: u32) -> Entry {
-    Entry::Took {
-        t: Tid(t),
-        l: Lid(l),
-        stack: left(0),
-    }
-}
-
-fn free(t: u32, l: u32) -> Entry {
-    Entry::Free {
-        t: Tid(t),
-        l: Lid(l),
-    }
-}
-
-/// A Yield because of a cover of signature 0 with these births.
-fn yielded(t: u32, l: u32, births: [u32; 2], stack: Stack) -> Entry {
-    Entry::Yield {
-        t: Tid(t),
-        l: Lid(l),
-        stack,
-        sig: 0,
-        births: Births::new(&births),
-    }
-}
 
 /// A monitor of four threads and four locks that has taken these notes.
 fn told(rt: &impl Abort, alloc: Global, notes: &[Entry]) -> Monitor {
@@ -99,11 +48,11 @@ fn a_deadlock_is_one_cycle(rt: HostRuntime) {
 #[test]
 fn a_lock_held_twice_has_the_birth_of_its_first_grant(rt: HostRuntime) {
     let notes = [
-        took(0, A),
-        took(0, A),
-        took(0, A),
+        took(0, A, left(0)),
+        took(0, A, left(0)),
+        took(0, A, left(0)),
         free(0, A),
-        took(1, B),
+        took(1, B, left(0)),
         go(0, B, left(1)),
         go(1, A, left(1)),
     ];
@@ -123,10 +72,10 @@ fn one_that_waits_is_no_cycle(rt: HostRuntime) {
 #[test]
 fn two_deadlocks_are_in_the_order_of_their_first_threads(rt: HostRuntime) {
     let notes = [
-        took(0, A),
-        took(1, B),
-        took(2, C),
-        took(3, D),
+        took(0, A, left(0)),
+        took(1, B, left(0)),
+        took(2, C, left(0)),
+        took(3, D, left(0)),
         go(1, C, left(1)),
         go(2, B, left(1)),
         go(3, A, left(1)),
@@ -159,9 +108,9 @@ fn the_choice_need_not_be_in_its_starvation(rt: HostRuntime) {
     let notes = [
         go(0, A, left(0)),
         got(0, A),
-        took(1, C),
-        took(2, B),
-        took(2, D),
+        took(1, C, left(0)),
+        took(2, B, left(0)),
+        took(2, D, left(0)),
         go(0, C, left(1)),
         yielded(1, B, [0, 6], right(1)),
         yielded(2, C, [7, 0], right(1)),

@@ -6,19 +6,12 @@ use dim_asm::assemble;
 use dim_history_file::read;
 use dim_rag::{Entry, Why};
 use dim_run::{House, Outcome, Run, Settings, TurnHouse, live};
+use sample_texts::histories::{EMPTY_BEFORE, LEARNT_BEFORE};
+use sample_texts::programs::{CROSSED, SMALLEST};
 use std::alloc::Global;
 use std::process::Abort;
 use std::sync::Wait;
 use std::thread::Threads;
-
-const SMALLEST: &[u8] = b"dim program 1\nfunc main 0\nRET\nend\nthread main 0\nend program\n";
-
-const CROSSED: &[u8] =
-    b"dim program 1\nlock a\nlock b\nfunc left 0\nLOCK a\nLOCK b\nUNLOCK b\nUNLOCK a\nRET\nend\nfunc right 0\nLOCK b\nLOCK a\nUNLOCK a\nUNLOCK b\nRET\nend\nthread left 0\nthread right 0\nend program\n";
-
-const EMPTY: &[u8] = b"dim history 1\nend 0\n";
-
-const KNOWN: &[u8] = b"dim history 1\nsignature 4 2\nleft:0\nright:0\nend 1\n";
 
 fn settings(workers: u32) -> Settings
     requires some { 1 ≤ workers }
@@ -60,7 +53,7 @@ fn ends_at_once(rt: &impl Abort, run: &Run) {
 #[test]
 fn the_smallest_program_ends_at_once(rt: HostRuntime) {
     let mut house = TurnHouse::new();
-    let run = run_of(&rt, rt.alloc(), &mut house, SMALLEST, EMPTY, 4);
+    let run = run_of(&rt, rt.alloc(), &mut house, SMALLEST, EMPTY_BEFORE, 4);
     ends_at_once(&rt, &run);
     same(&rt, house.passed(), 1);
     close(run);
@@ -76,7 +69,7 @@ fn yields_as_told(rt: &impl Abort, run: &Run) {
 /// A run in which both threads finish, because the deadlock is known.
 fn finishes<R: Abort + Threads + Wait + Sync>(rt: &R, alloc: Global) {
     let mut house = TurnHouse::new();
-    let run = run_of(rt, alloc, &mut house, CROSSED, KNOWN, 2);
+    let run = run_of(rt, alloc, &mut house, CROSSED, LEARNT_BEFORE, 2);
     ended(rt, &run, Outcome::Finished);
     same(rt, house.passed(), run.entries.len() as u64);
     yields_as_told(rt, &run);

@@ -12,26 +12,12 @@ use dim_rag::{Births, Command, Entry, Why};
 use dim_run::{Finish, Last, Outcome, Run, Settings, play, settle, tell};
 use dim_signature::Catalogue;
 use dim_stack::{Frame, Stack};
+use sample_texts::histories::{
+    EMPTY_BEFORE, INTERLEAVED_BEFORE, LEARNT_BEFORE, MOST_YIELDS, SWITCHED_OFF,
+};
+use sample_texts::programs::{CHAINED, CROSSED, ENDS_HOLDING, LEADS_ON, NEVER_FREED};
 use std::alloc::Global;
 use std::process::Abort;
-
-const CROSSED: &[u8] =
-    b"dim program 1\nlock a\nlock b\nfunc left 0\nLOCK a\nLOCK b\nUNLOCK b\nUNLOCK a\nRET\nend\nfunc right 0\nLOCK b\nLOCK a\nUNLOCK a\nUNLOCK b\nRET\nend\nthread left 0\nthread right 0\nend program\n";
-
-// The second thread waits for a lock whose holder waits for the first's, which it holds.
-const STARVES: &[u8] =
-    b"dim program 1\nlock a\nlock b\nlock c\nfunc left 0\nLOCK a\nLOCK c\nUNLOCK c\nUNLOCK a\nRET\nend\nfunc right 0\nLOCK c\nLOCK b\nUNLOCK b\nUNLOCK c\nRET\nend\nthread left 0\nthread right 0\nend program\n";
-
-// The same, but after a break the two wait for each other.
-const LEADS_ON: &[u8] =
-    b"dim program 1\nlock a\nlock b\nlock c\nfunc left 0\nLOCK a\nLOCK c\nLOCK b\nUNLOCK b\nUNLOCK c\nUNLOCK a\nRET\nend\nfunc right 0\nLOCK c\nLOCK b\nUNLOCK c\nLOCK a\nUNLOCK a\nUNLOCK b\nRET\nend\nthread left 0\nthread right 0\nend program\n";
-
-// The first thread ends with a lock because of which the second one yields.
-const ENDS: &[u8] =
-    b"dim program 1\nlock a\nlock b\nfunc left 0\nLOCK a\nRET\nend\nfunc right 0\nLOCK b\nUNLOCK b\nRET\nend\nthread left 0\nthread right 0\nend program\n";
-
-const NEVER_FREED: &[u8] =
-    b"dim program 1\nlock a\nfunc left 0\nLOCK a\nRET\nend\nfunc right 0\nLOCK a\nUNLOCK a\nRET\nend\nthread left 0\nthread right 0\nend program\n";
 
 fn settings(fuel: u32) -> Settings
     requires some { 1 ≤ fuel }
@@ -51,13 +37,6 @@ fn settings(fuel: u32) -> Settings
 fn stack(func: u32, at: u32) -> Stack {
     Stack::new(&[Frame { func, at }])
 }
-
-const EMPTY: &[u8] = b"dim history 1\nend 0\n";
-
-// `left` at offset 0, and `right` at offset 0 or 1.
-const AT_0: &[u8] = b"dim history 1\nsignature 4 2\nleft:0\nright:0\nend 1\n";
-
-const AT_1: &[u8] = b"dim history 1\nsignature 4 2\nleft:0\nright:1\nend 1\n";
 
 /// The run of a program with a history, each given by its text.
 fn run_of(rt: &impl Abort, alloc: Global, program: &[u8], history: &[u8], fuel: u32) -> Run {
@@ -131,7 +110,7 @@ fn learn() -> Entry {
 
 #[test]
 fn first_deadlock_is_learnt(rt: HostRuntime) {
-    let run = run_of(&rt, rt.alloc(), CROSSED, EMPTY, 8_192);
+    let run = run_of(&rt, rt.alloc(), CROSSED, EMPTY_BEFORE, 8_192);
     let wanted = [
         go(0, 0, 0, 0),
         got(0, 0),
@@ -153,7 +132,7 @@ fn first_deadlock_is_learnt(rt: HostRuntime) {
 
 #[test]
 fn a_starvation_is_learnt_and_broken(rt: HostRuntime) {
-    let run = run_of(&rt, rt.alloc(), STARVES, AT_1, 8_192);
+    let run = run_of(&rt, rt.alloc(), CHAINED, INTERLEAVED_BEFORE, 8_192);
     let wanted = [
         learn(),
         Entry::Break { set: 3, t: Tid(1) },
@@ -175,7 +154,7 @@ fn a_starvation_is_learnt_and_broken(rt: HostRuntime) {
 
 #[test]
 fn a_break_may_lead_into_a_known_deadlock(rt: HostRuntime) {
-    let run = run_of(&rt, rt.alloc(), LEADS_ON, AT_1, 8_192);
+    let run = run_of(&rt, rt.alloc(), LEADS_ON, INTERLEAVED_BEFORE, 8_192);
     let wanted = [
         got(1, 1),
         free(1, 2),
@@ -191,17 +170,15 @@ fn a_break_may_lead_into_a_known_deadlock(rt: HostRuntime) {
 
 #[test]
 fn an_ended_cause_is_broken_out(rt: HostRuntime) {
-    let run = run_of(&rt, rt.alloc(), ENDS, AT_0, 8_192);
+    let run = run_of(&rt, rt.alloc(), ENDS_HOLDING, LEARNT_BEFORE, 8_192);
     let broken = Entry::Break { set: 3, t: Tid(1) };
     let wanted = [done(0), broken, got(1, 1), free(1, 1), done(1)];
     has(&rt, &run, 8, &wanted);
     close(run);
 }
 
-// The same signature with yields from an earlier run, and with the most that are counted.
-const AT_0_YIELDED: &[u8] = b"dim history 2\nsignature 4 2 on 7\nleft:0\nright:0\nend 1\n";
-
-const AT_0_MOST: &[u8] = b"dim history 2\nsignature 4 2 on 4294967295\nleft:0\nright:0\nend 1\n";
+// `LEARNT` with yields from earlier runs.
+const SEVEN_YIELDS: &[u8] = b"dim history 2\nsignature 4 2 on 7\nleft:0\nright:0\nend 1\n";
 
 /// So many yields has the one signature after a run that begins with this history.
 fn counts_yields(rt: &impl Abort, alloc: Global, history: &[u8], yields: u64) {
@@ -217,13 +194,11 @@ fn yielded(rt: &impl Abort, run: &Run, yields: u64) {
 
 #[test]
 fn the_yields_of_a_run_are_counted(rt: HostRuntime) {
-    counts_yields(&rt, rt.alloc(), AT_0, 1);
-    counts_yields(&rt, rt.alloc(), AT_0_YIELDED, 8);
-    counts_yields(&rt, rt.alloc(), AT_0_MOST, 4_294_967_295);
-    counts_yields(&rt, rt.alloc(), EMPTY, 0);
+    counts_yields(&rt, rt.alloc(), LEARNT_BEFORE, 1);
+    counts_yields(&rt, rt.alloc(), SEVEN_YIELDS, 8);
+    counts_yields(&rt, rt.alloc(), MOST_YIELDS, 4_294_967_295);
+    counts_yields(&rt, rt.alloc(), EMPTY_BEFORE, 0);
 }
-
-const AT_0_OFF: &[u8] = b"dim history 2\nsignature 4 2 off 0\nleft:0\nright:0\nend 1\n";
 
 /// The one signature is switched off.
 fn is_off(rt: &impl Abort, run: &Run) {
@@ -233,7 +208,7 @@ fn is_off(rt: &impl Abort, run: &Run) {
 
 #[test]
 fn a_switched_off_signature_is_not_learnt_again(rt: HostRuntime) {
-    let run = run_of(&rt, rt.alloc(), CROSSED, AT_0_OFF, 8_192);
+    let run = run_of(&rt, rt.alloc(), CROSSED, SWITCHED_OFF, 8_192);
     has(&rt, &run, 6, &[]);
     ended(&rt, &run, Outcome::Deadlocked);
     yielded(&rt, &run, 0);
@@ -243,7 +218,7 @@ fn a_switched_off_signature_is_not_learnt_again(rt: HostRuntime) {
 
 #[test]
 fn a_lock_of_an_ended_thread_is_never_given(rt: HostRuntime) {
-    let run = run_of(&rt, rt.alloc(), NEVER_FREED, EMPTY, 8_192);
+    let run = run_of(&rt, rt.alloc(), NEVER_FREED, EMPTY_BEFORE, 8_192);
     let wanted = [go(0, 0, 0, 0), got(0, 0), go(1, 0, 1, 0), done(0)];
     has(&rt, &run, 4, &wanted);
     ended(&rt, &run, Outcome::Stalled);
@@ -264,7 +239,7 @@ fn are_ends(rt: &impl Abort, run: &Run, ends: &[Last]) {
 
 #[test]
 fn each_thread_is_told_as_it_finished(rt: HostRuntime) {
-    let run = run_of(&rt, rt.alloc(), NEVER_FREED, EMPTY, 8_192);
+    let run = run_of(&rt, rt.alloc(), NEVER_FREED, EMPTY_BEFORE, 8_192);
     let waits = Finish::Waits { l: Lid(0) };
     are_ends(&rt, &run, &[last(Finish::Done), last(waits)]);
     close(run);
@@ -272,7 +247,7 @@ fn each_thread_is_told_as_it_finished(rt: HostRuntime) {
 
 #[test]
 fn a_request_needs_two_units(rt: HostRuntime) {
-    let run = run_of(&rt, rt.alloc(), CROSSED, EMPTY, 1);
+    let run = run_of(&rt, rt.alloc(), CROSSED, EMPTY_BEFORE, 1);
     has(&rt, &run, 2, &[]);
     ended(&rt, &run, Outcome::Finished);
     close(run);

@@ -1,27 +1,9 @@
 //! Programs are printed as the texts that they were assembled from.
-use crate::programs::{DOORS, PHILOSOPHER, bind_with, done, program_of, same};
+use crate::programs::{DOORS, bind_with, done, program_of, same};
 use dim_asm::{Program, print};
+use sample_texts::programs::{NESTED, PHILOSOPHERS, PLAIN, SMALLEST, TRAPPED, TRIES};
 use std::alloc::Global;
 use std::process::Abort;
-
-// A lock is taken in a function that two others call.
-const CALLS: &[u8] =
-    b"dim program 1\nlock a\nlock b\nfunc take 0\nLOCKX\nRET\nend\nfunc one 0\nCALL take\nPUSH 0\nUNLOCKX\nRET\nend\nfunc two 0\nCALL take\nPUSH 1\nUNLOCKX\nRET\nend\nthread one 0\nthread two 1\nend program\n";
-
-// A lock is tried.
-const TRIES: &[u8] =
-    b"dim program 1\nlock a\nlock b\nfunc left 0\nLOCK a\nTRYLOCK b\nPOP\nUNLOCK a\nRET\nend\nfunc right 0\nLOCK b\nLOCK a\nUNLOCK a\nUNLOCK b\nRET\nend\nthread left 0\nthread right 0\nend program\n";
-
-// A lock is taken twice, and freed by another thread.
-const TRAPS: &[u8] =
-    b"dim program 1\nlock a\nfunc re 0\nLOCK a\nLOCK a\nRET\nend\nfunc un 0\nUNLOCK a\nRET\nend\nthread re 0\nthread un 0\nend program\n";
-
-// One thread.
-const ALONE: &[u8] =
-    b"dim program 1\nlock a\nfunc main 0\nPUSH 1\nPOP\nLOCK a\nUNLOCK a\nRET\nend\nthread main 0\nend program\n";
-
-// No lock.
-const NOTHING: &[u8] = b"dim program 1\nfunc main 0\nRET\nend\nthread main 0\nend program\n";
 
 // Each instruction word, and the ends of the ranges of numbers.
 const WORDS: &[u8] =
@@ -39,7 +21,7 @@ fn is_printed(rt: &impl Abort, alloc: Global, text: &[u8]) {
     has_text(rt, alloc, &program, text);
 }
 
-const TEXTS: [&[u8]; 7] = [PHILOSOPHER, CALLS, TRIES, TRAPS, ALONE, NOTHING, WORDS];
+const TEXTS: [&[u8]; 7] = [PHILOSOPHERS, NESTED, TRIES, TRAPPED, PLAIN, SMALLEST, WORDS];
 
 #[test]
 fn a_program_is_printed_as_its_text(rt: HostRuntime) {
@@ -51,9 +33,9 @@ fn a_program_is_printed_as_its_text(rt: HostRuntime) {
 
 #[test]
 fn a_table_of_names_is_not_printed(rt: HostRuntime) {
-    let mut program = program_of(&rt, rt.alloc(), CALLS);
-    bind_with(&rt, rt.alloc(), &mut program, PHILOSOPHER);
+    let mut program = program_of(&rt, rt.alloc(), NESTED);
+    bind_with(&rt, rt.alloc(), &mut program, PHILOSOPHERS);
     same(&rt, program.number(0), 2);
-    has_text(&rt, rt.alloc(), &program, CALLS);
+    has_text(&rt, rt.alloc(), &program, NESTED);
     done(program);
 }

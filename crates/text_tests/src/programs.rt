@@ -6,6 +6,7 @@ ghost use Rattle.dim_asm.specs.Code.{func_names};
 use dim_asm::{AsmError, Op, Program, assemble};
 use dim_base::{Lid, OutOfMemory, Tid};
 use dim_stack::{Names, merged_law};
+use sample_texts::programs::PHILOSOPHERS;
 use std::alloc::Global;
 use std::fmt::Write;
 use std::process::Abort;
@@ -203,13 +204,9 @@ fn an_instruction_has_its_own_faults(rt: HostRuntime) {
     }
 }
 
-// A philosopher takes the forks to both sides, and lays them down.
-pub const PHILOSOPHER: &[u8] =
-    b"dim program 1\nlock f0\nlock f1\nlock f2\nlock f3\nlock f4\nfunc phil 1\nPUTL 0\nGETL 0\nLOCKX\nGETL 0\nPUSH 4\nEQ\nJZ 9\nPUSH 0\nJMP 12\nGETL 0\nPUSH 1\nADD\nDUP\nLOCKX\nUNLOCKX\nGETL 0\nUNLOCKX\nRET\nend\nthread phil 0\nthread phil 1\nthread phil 2\nthread phil 3\nthread phil 4\nend program\n";
-
 #[test]
 fn philosophers_are_assembled(rt: HostRuntime) {
-    let p = program_of(&rt, rt.alloc(), PHILOSOPHER);
+    let p = program_of(&rt, rt.alloc(), PHILOSOPHERS);
     has(&rt, &p, 5, 5, 1);
     same_op(&rt, p.op(0, 6), Some(Op::Jz { k: 9 }));
     same_op(&rt, p.op(0, 17), Some(Op::Ret));
@@ -256,7 +253,7 @@ pub fn bind_with(rt: &impl Abort, alloc: Global, p: &mut Program, text: &[u8]) {
 #[test]
 fn a_program_is_bound_to_a_larger_table(rt: HostRuntime) {
     let mut p = program_of(&rt, rt.alloc(), DOORS.as_bytes());
-    bind_with(&rt, rt.alloc(), &mut p, PHILOSOPHER);
+    bind_with(&rt, rt.alloc(), &mut p, PHILOSOPHERS);
     same(&rt, p.number(0), 0);
     same(&rt, p.number(1), 2);
     done(p);

@@ -1,95 +1,26 @@
 ghost use Rattle.std.specs.Prelude.{◌≡◌};
 
+use crate::entries::{at, end, free, go, got, immune, took, yielded};
 use dim_asm::assemble;
-use dim_base::{Lid, Tid};
+use dim_base::Tid;
 use dim_history_file::read;
 use dim_rag::{Births, Entry, MissWhy, Why};
-use dim_stack::{Frame, Stack};
 use dim_trace::{Rule, Trace, Verdict, check};
+use sample_texts::histories::{EMPTY_BEFORE, INTERLEAVED_BEFORE, LEARNT_BEFORE};
+use sample_texts::programs::{CROSSED, PLAIN};
 use std::alloc::Global;
 use std::process::Abort;
-
-// The locks a and b, and the functions left (0) and right (1), which take them in opposite orders.
-const CROSSED: &[u8] =
-    b"dim program 1\nlock a\nlock b\nfunc left 0\nLOCK a\nLOCK b\nUNLOCK b\nUNLOCK a\nRET\nend\nfunc right 0\nLOCK b\nLOCK a\nUNLOCK a\nUNLOCK b\nRET\nend\nthread left 0\nthread right 0\nend program\n";
-
-const ALONE: &[u8] =
-    b"dim program 1\nlock a\nfunc main 0\nPUSH 1\nPOP\nLOCK a\nUNLOCK a\nRET\nend\nthread main 0\nend program\n";
 
 // A thread that takes a lock twice and gives it back twice.
 const AGAIN: &[u8] =
     b"dim program 1\nlock a\nfunc main 0\nLOCK a\nLOCK a\nUNLOCK a\nUNLOCK a\nRET\nend\nthread main 0\nend program\n";
 
-const EMPTY: &[u8] = b"dim history 1\nend 0\n";
-
 // Threads 0 and 1 take their locks along a chain; thread 2 does nothing.
-const CHAINED: &[u8] =
+const CHAINED_BESIDE_ONE: &[u8] =
     b"dim program 1\nlock a\nlock b\nlock c\nfunc left 0\nLOCK a\nLOCK c\nUNLOCK c\nUNLOCK a\nRET\nend\nfunc right 0\nLOCK c\nLOCK b\nUNLOCK b\nUNLOCK c\nRET\nend\nfunc stay 0\nRET\nend\nthread left 0\nthread right 0\nthread stay 0\nend program\n";
-
-const AT_1: &[u8] = b"dim history 1\nsignature 4 2\nleft:0\nright:1\nend 1\n";
-
-const AT_0: &[u8] = b"dim history 1\nsignature 4 2\nleft:0\nright:0\nend 1\n";
-
-// The stack of one frame.
-fn at(func: u32, at: u32) -> Stack {
-    Stack::new(&[Frame { func, at }])
-}
-
-fn go(t: u32, l: u32, stack: Stack) -> Entry {
-    Entry::Go {
-        t: Tid(t),
-        l: Lid(l),
-        stack,
-    }
-}
-
-fn got(t: u32, l: u32) -> Entry {
-    Entry::Got {
-        t: Tid(t),
-        l: Lid(l),
-    }
-}
-
-fn free(t: u32, l: u32) -> Entry {
-    Entry::Free {
-        t: Tid(t),
-        l: Lid(l),
-    }
-}
-
-fn end(t: u32, why: Why) -> Entry {
-    Entry::End { t: Tid(t), why }
-}
 
 /// A program and a history, by their texts, and the fuel of each thread.
 type Setting = (&'static [u8], &'static [u8], u32);
-
-/// A run of CROSSED from AT_0 in which thread 1 yields once.
-fn immune() -> [Entry; 15] {
-    [
-        go(0, 0, at(0, 0)),
-        got(0, 0),
-        Entry::Yield {
-            t: Tid(1),
-            l: Lid(1),
-            stack: at(1, 0),
-            sig: 0,
-            births: Births::new(&[0, 2]),
-        },
-        go(0, 1, at(0, 1)),
-        got(0, 1),
-        free(0, 1),
-        free(0, 0),
-        go(1, 1, at(1, 0)),
-        got(1, 1),
-        end(0, Why::Done),
-        go(1, 0, at(1, 1)),
-        got(1, 0),
-        free(1, 0),
-        free(1, 1),
-        end(1, Why::Done),
-    ]
-}
 
 /// The deadlock of CROSSED, without its Learn.
 fn deadlock() -> [Entry; 6] {
@@ -103,7 +34,7 @@ fn deadlock() -> [Entry; 6] {
     ]
 }
 
-/// The Learn of the cycle of that deadlock, and of what starves in CHAINED.
+/// The Learn of the cycle of that deadlock, and of what starves in CHAINED_BESIDE_ONE.
 fn learnt() -> Entry {
     Entry::Learn {
         births: Births::new(&[0, 2]),
@@ -153,15 +84,15 @@ fn no(place: u32, rule: Rule) -> Verdict {
     Verdict::No { place, rule }
 }
 
-const IMMUNE: Setting = (CROSSED, AT_0, 8_192);
+const IMMUNE: Setting = (CROSSED, LEARNT_BEFORE, 8_192);
 
-const DEADLOCKED: Setting = (CROSSED, EMPTY, 8_192);
+const DEADLOCKED: Setting = (CROSSED, EMPTY_BEFORE, 8_192);
 
-const LONELY: Setting = (ALONE, EMPTY, 8_192);
+const LONELY: Setting = (PLAIN, EMPTY_BEFORE, 8_192);
 
-const TWICE: Setting = (AGAIN, EMPTY, 8_192);
+const TWICE: Setting = (AGAIN, EMPTY_BEFORE, 8_192);
 
-const STARVING: Setting = (CHAINED, AT_1, 8_192);
+const STARVING: Setting = (CHAINED_BESIDE_ONE, INTERLEAVED_BEFORE, 8_192);
 
 #[test]
 fn a_run_with_a_yield_executes_its_program(rt: HostRuntime) {
@@ -189,7 +120,7 @@ fn a_deadlock_that_is_learnt_executes(rt: HostRuntime) {
 
 #[test]
 fn a_thread_with_units_left_is_not_spent(rt: HostRuntime) {
-    let few = (ALONE, EMPTY, 4);
+    let few = (PLAIN, EMPTY_BEFORE, 4);
     told(&rt, rt.alloc(), few, &[&spent()], Verdict::Yes);
     told(&rt, rt.alloc(), LONELY, &[&spent()], no(2, Rule::Walk));
 }
@@ -212,15 +143,6 @@ fn a_lock_and_a_thread_that_the_program_lacks_are_illegal(rt: HostRuntime) {
     told(&rt, rt.alloc(), LONELY, &[&thread], no(0, Rule::Legal));
 }
 
-/// What takes the lock of AGAIN once more.
-fn again() -> Entry {
-    Entry::Took {
-        t: Tid(0),
-        l: Lid(0),
-        stack: at(0, 1),
-    }
-}
-
 /// Thread 0 takes the lock of AGAIN.
 fn first() -> [Entry; 2] {
     [go(0, 0, at(0, 0)), got(0, 0)]
@@ -228,7 +150,12 @@ fn first() -> [Entry; 2] {
 
 #[test]
 fn a_lock_that_is_held_is_taken_once_more(rt: HostRuntime) {
-    let moves = [again(), free(0, 0), free(0, 0), end(0, Why::Done)];
+    let moves = [
+        took(0, 0, at(0, 1)),
+        free(0, 0),
+        free(0, 0),
+        end(0, Why::Done),
+    ];
     told(&rt, rt.alloc(), TWICE, &[&first(), &moves], Verdict::Yes);
     let asks = [go(0, 0, at(0, 1))];
     told(
@@ -238,7 +165,7 @@ fn a_lock_that_is_held_is_taken_once_more(rt: HostRuntime) {
         &[&first(), &asks],
         no(2, Rule::Legal),
     );
-    let keeps = [again(), free(0, 0), end(0, Why::Done)];
+    let keeps = [took(0, 0, at(0, 1)), free(0, 0), end(0, Why::Done)];
     told(
         &rt,
         rt.alloc(),
@@ -248,7 +175,7 @@ fn a_lock_that_is_held_is_taken_once_more(rt: HostRuntime) {
     );
 }
 
-/// A run of CHAINED from AT_1 up to where thread 0 waits for c, and thread 1 yields because of thread 0.
+/// A run of CHAINED_BESIDE_ONE from INTERLEAVED_BEFORE up to where thread 0 waits for c, and thread 1 yields because of thread 0.
 fn starving() -> [Entry; 6] {
     [
         go(0, 0, at(0, 0)),
@@ -256,13 +183,7 @@ fn starving() -> [Entry; 6] {
         go(1, 2, at(1, 0)),
         got(1, 2),
         go(0, 2, at(0, 1)),
-        Entry::Yield {
-            t: Tid(1),
-            l: Lid(1),
-            stack: at(1, 1),
-            sig: 0,
-            births: Births::new(&[0, 5]),
-        },
+        yielded(1, 1, [0, 5], at(1, 1)),
     ]
 }
 
@@ -276,7 +197,7 @@ fn broken() -> Entry {
     Entry::Break { set: 3, t: Tid(1) }
 }
 
-/// How CHAINED ends: thread 1 goes on, and then thread 0.
+/// How CHAINED_BESIDE_ONE ends: thread 1 goes on, and then thread 0.
 fn rest() -> [Entry; 8] {
     [
         got(1, 1),
@@ -290,7 +211,7 @@ fn rest() -> [Entry; 8] {
     ]
 }
 
-/// This is the verdict on the run of CHAINED that goes on with these entries, and then to its end.
+/// This is the verdict on the run of CHAINED_BESIDE_ONE that goes on with these entries, and then to its end.
 fn told_with(rt: &impl Abort, alloc: Global, next: &[Entry], expected: Verdict) {
     told(rt, alloc, STARVING, &[&starving(), next, &rest()], expected);
 }

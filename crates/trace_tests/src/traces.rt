@@ -1,89 +1,29 @@
-ghost use Rattle.std.specs.Prelude.{◌≤◌, length};
-
+use crate::entries::{at, end, free, go, got, immune, took};
 use dim_asm::{Program, assemble};
 use dim_base::{Lid, Tid};
 use dim_rag::{Births, Entry, MissWhy, Named, Why};
 use dim_stack::{Frame, Names, Stack};
 use dim_trace::{Trace, TraceError, check, read_trace, write_trace};
+use sample_texts::programs::{CHAINED, CROSSED};
+use sample_texts::traces;
 use std::alloc::Global;
 use std::process::Abort;
-
-// The locks a and b, and the functions left (0) and right (1).
-const PROGRAM: &[u8] =
-    b"dim program 1\nlock a\nlock b\nfunc left 0\nLOCK a\nLOCK b\nUNLOCK b\nUNLOCK a\nRET\nend\nfunc right 0\nLOCK b\nLOCK a\nUNLOCK a\nUNLOCK b\nRET\nend\nthread left 0\nthread right 0\nend program\n";
-
-const IMMUNITY: &[u8] =
-    b"dim trace 1\nsettings 8192 4\ngo 0 a left:0\ngot 0 a\nyield 1 b 0 2 0 2 right:0\ngo 0 b left:1\ngot 0 b\nfree 0 b\nfree 0 a\ngo 1 b right:0\ngot 1 b\ndone 0\ngo 1 a right:1\ngot 1 a\nfree 1 a\nfree 1 b\ndone 1\nend 15\n";
 
 const EACH_KIND: &[u8] =
     b"dim trace 1\nsettings 5 32\ngo 0 a left:0 right:65535\nyield 1 b 4095 3 0 2 1048575 right:0 left:7\ngot 0 a\nfree 0 a\ntook 31 b right:3\nbusy 0 b 31 left:1\navoid 0 b 1 2 10 20 left:1 left:2\ndone 0\ntrap 1 9\nspent 2\nbreak 4294967295 1\nlearn 2 0 2\nend 12\n";
 
-const A: Lid = Lid(0);
+const A: u32 = 0;
 
-const B: Lid = Lid(1);
-
-fn at(func: u32, at: u32) -> Stack {
-    Stack::new(&[Frame { func, at }])
-}
+const B: u32 = 1;
 
 fn called(func: u32, at: u32, by: u32, from: u32) -> Stack {
     let caller = Frame { func: by, at: from };
     Stack::new(&[Frame { func, at }, caller])
 }
 
-fn go(t: u32, l: Lid, stack: Stack) -> Entry {
-    let t = Tid(t);
-    Entry::Go { t, l, stack }
-}
-
-fn got(t: u32, l: Lid) -> Entry {
-    Entry::Got { t: Tid(t), l }
-}
-
-fn free(t: u32, l: Lid) -> Entry {
-    Entry::Free { t: Tid(t), l }
-}
-
-fn end(t: u32, why: Why) -> Entry {
-    Entry::End { t: Tid(t), why }
-}
-
-fn yields(t: u32, l: Lid, stack: Stack, sig: u32, births: &[u32]) -> Entry
-    requires { length births.now ≤ 32 }
-{
-    let (t, births) = (Tid(t), Births::new(births));
-    Entry::Yield {
-        t,
-        l,
-        stack,
-        sig,
-        births,
-    }
-}
-
-fn miss(t: u32, l: Lid, stack: Stack, why: MissWhy) -> Entry {
-    let t = Tid(t);
+fn miss(t: u32, l: u32, stack: Stack, why: MissWhy) -> Entry {
+    let (t, l) = (Tid(t), Lid(l));
     Entry::Miss { t, l, stack, why }
-}
-
-fn run_with_a_yield() -> [Entry; 15] {
-    [
-        go(0, A, at(0, 0)),
-        got(0, A),
-        yields(1, B, at(1, 0), 0, &[0, 2]),
-        go(0, B, at(0, 1)),
-        got(0, B),
-        free(0, B),
-        free(0, A),
-        go(1, B, at(1, 0)),
-        got(1, B),
-        end(0, Why::Done),
-        go(1, A, at(1, 1)),
-        got(1, A),
-        free(1, A),
-        free(1, B),
-        end(1, Why::Done),
-    ]
 }
 
 /// The cause of a Miss that would complete a cover.
@@ -97,14 +37,16 @@ fn avoid() -> MissWhy {
 fn entry_of_each_kind() -> [Entry; 12] {
     [
         go(0, A, called(0, 0, 1, 65535)),
-        yields(1, B, called(1, 0, 0, 7), 4095, &[0, 2, 1048575]),
+        Entry::Yield {
+            t: Tid(1),
+            l: Lid(B),
+            stack: called(1, 0, 0, 7),
+            sig: 4095,
+            births: Births::new(&[0, 2, 1048575]),
+        },
         got(0, A),
         free(0, A),
-        Entry::Took {
-            t: Tid(31),
-            l: B,
-            stack: at(1, 3),
-        },
+        took(31, B, at(1, 3)),
         miss(0, B, at(0, 1), MissWhy::Busy { holder: Tid(31) }),
         miss(0, B, called(0, 1, 0, 2), avoid()),
         end(0, Why::Done),
@@ -142,7 +84,7 @@ fn names_of(rt: &impl Abort, alloc: Global, program: &Program) -> Names {
 
 /// A trace of the program of the locks a and b is written as this text.
 fn is_written(rt: &impl Abort, alloc: Global, trace: &Trace, text: &[u8]) {
-    let program = program_of(rt, alloc, PROGRAM);
+    let program = program_of(rt, alloc, CROSSED);
     let names = names_of(rt, alloc, &program);
     let written = write_trace(alloc, &program, &names, trace).expect(rt, "a text");
     assert_eq!(rt; written.as_slice(), text);
@@ -153,8 +95,8 @@ fn done(_trace: Trace) {}
 
 #[test]
 fn immunity_after_one_deadlock(rt: HostRuntime) {
-    let trace = trace_of(&rt, rt.alloc(), 8192, 4, &run_with_a_yield());
-    is_written(&rt, rt.alloc(), &trace, IMMUNITY);
+    let trace = trace_of(&rt, rt.alloc(), 8192, 4, &immune());
+    is_written(&rt, rt.alloc(), &trace, traces::AVOIDED);
     done(trace);
 }
 
@@ -164,19 +106,6 @@ fn a_line_of_each_kind_of_entry(rt: HostRuntime) {
     is_written(&rt, rt.alloc(), &trace, EACH_KIND);
     done(trace);
 }
-
-const SMALLEST: &[u8] = b"dim trace 1\nsettings 8192 4\ndone 0\nend 1\n";
-
-// Two threads that wait for each other's lock.
-const DEADLOCK: &[u8] =
-    b"dim trace 1\nsettings 8192 4\ngo 0 a left:0\ngot 0 a\ngo 1 b right:0\ngot 1 b\ngo 0 b left:1\ngo 1 a right:1\nlearn 2 0 2\nend 7\n";
-
-const THREE_LOCKS: &[u8] =
-    b"dim program 1\nlock a\nlock b\nlock c\nfunc left 0\nLOCK a\nLOCK c\nUNLOCK c\nUNLOCK a\nRET\nend\nfunc right 0\nLOCK c\nLOCK b\nUNLOCK b\nUNLOCK c\nRET\nend\nthread left 0\nthread right 0\nend program\n";
-
-// A thread that yields, and is let through.
-const BREAK: &[u8] =
-    b"dim trace 1\nsettings 8192 4\ngo 0 a left:0\ngot 0 a\ngo 1 c right:0\ngot 1 c\ngo 0 c left:1\nyield 1 b 0 2 0 5 right:1\nbreak 3 1\ngot 1 b\nfree 1 b\nfree 1 c\ndone 1\ngot 0 c\nfree 0 c\nfree 0 a\ndone 0\nend 15\n";
 
 // Texts that are no traces of the program above: of each the line of its first fault and the number of its kind.
 const FAULTS: [(&[u8], u32, u32); 56] = [
@@ -333,13 +262,13 @@ fn come_back(rt: &impl Abort, alloc: Global, program: &[u8], texts: &[&[u8]]) {
 
 #[test]
 fn a_text_that_was_read_is_written_again(rt: HostRuntime) {
-    let texts = [SMALLEST, DEADLOCK, IMMUNITY, EACH_KIND];
-    come_back(&rt, rt.alloc(), PROGRAM, &texts);
-    come_back(&rt, rt.alloc(), THREE_LOCKS, &[BREAK]);
+    let texts = [traces::SMALLEST, traces::LEARNT, traces::AVOIDED, EACH_KIND];
+    come_back(&rt, rt.alloc(), CROSSED, &texts);
+    come_back(&rt, rt.alloc(), CHAINED, &[traces::STARVED_UNLEARNT]);
 }
 
 fn trace_in(rt: &impl Abort, alloc: Global, text: &[u8]) -> Trace {
-    let program = program_of(rt, alloc, PROGRAM);
+    let program = program_of(rt, alloc, CROSSED);
     let names = names_of(rt, alloc, &program);
     read_trace(alloc, &program, &names, text).expect(rt, "a trace")
 }
@@ -372,7 +301,7 @@ fn has_fault(rt: &impl Abort, fault: Option<(u32, u32)>, line: u32, kind: u32) {
 
 #[test]
 fn bad_traces_are_told_apart(rt: HostRuntime) {
-    have_faults(&rt, rt.alloc(), PROGRAM, &FAULTS);
+    have_faults(&rt, rt.alloc(), CROSSED, &FAULTS);
 }
 
 #[test]

@@ -1,10 +1,7 @@
-//! The programs and histories of the tests.
+//! Programs.
 
 /// One thread that ends at once.
 pub const SMALLEST: &[u8] = b"dim program 1\nfunc main 0\nRET\nend\nthread main 0\nend program\n";
-
-/// The trace of the run of `SMALLEST`.
-pub const SMALLEST_TRACE: &[u8] = b"dim trace 1\nsettings 8192 4\ndone 0\nend 1\n";
 
 /// Two threads that take two locks in opposite orders.
 pub const CROSSED: &[u8] =
@@ -14,7 +11,7 @@ pub const CROSSED: &[u8] =
 pub const CHAINED: &[u8] =
     b"dim program 1\nlock a\nlock b\nlock c\nfunc left 0\nLOCK a\nLOCK c\nUNLOCK c\nUNLOCK a\nRET\nend\nfunc right 0\nLOCK c\nLOCK b\nUNLOCK b\nUNLOCK c\nRET\nend\nthread left 0\nthread right 0\nend program\n";
 
-/// The same, but after a break the two wait for each other.
+/// Two threads that starve once `INTERLEAVED` is known, and after a break wait for each other.
 pub const LEADS_ON: &[u8] =
     b"dim program 1\nlock a\nlock b\nlock c\nfunc left 0\nLOCK a\nLOCK c\nLOCK b\nUNLOCK b\nUNLOCK c\nUNLOCK a\nRET\nend\nfunc right 0\nLOCK c\nLOCK b\nUNLOCK c\nLOCK a\nUNLOCK a\nUNLOCK b\nRET\nend\nthread left 0\nthread right 0\nend program\n";
 
@@ -61,43 +58,3 @@ pub const THREE_CROSSED: &[u8] =
 /// Two threads that take c before a, and one between them that takes a before c.
 pub const ONE_AGAINST_TWO: &[u8] =
     b"dim program 1\nlock a\nlock b\nlock c\nfunc w0 0\nLOCK c\nLOCK a\nLOCK b\nUNLOCK b\nUNLOCK a\nUNLOCK c\nRET\nend\nfunc w1 0\nLOCK a\nLOCK c\nUNLOCK c\nUNLOCK a\nRET\nend\nthread w0 0\nthread w1 0\nthread w0 0\nend program\n";
-
-/// The history that knows no signature.
-pub const EMPTY: &[u8] = b"dim history 2\nend 0\n";
-
-/// The signature of the deadlock of the two orders.
-pub const LEARNT: &[u8] = b"dim history 2\nsignature 4 2 on 0\nleft:0\nright:0\nend 1\n";
-
-/// The same in version 1.
-pub const LEARNT_BEFORE: &[u8] = b"dim history 1\nsignature 4 2\nleft:0\nright:0\nend 1\n";
-
-/// The same with one yield.
-pub const AVOIDED: &[u8] = b"dim history 2\nsignature 4 2 on 1\nleft:0\nright:0\nend 1\n";
-
-/// The same switched off.
-pub const SWITCHED_OFF: &[u8] = b"dim history 2\nsignature 4 2 off 0\nleft:0\nright:0\nend 1\n";
-
-/// A signature for which one of two threads has taken a lock before.
-pub const INTERLEAVED: &[u8] = b"dim history 2\nsignature 4 2 on 0\nleft:0\nright:1\nend 1\n";
-
-/// The signature of the deadlock of the philosophers.
-pub const FIVE_FORKS: &[u8] =
-    b"dim history 2\nsignature 4 5 on 0\nphil:2\nphil:2\nphil:2\nphil:2\nphil:2\nend 1\n";
-
-/// The same with one yield.
-pub const FIVE_FORKS_AVOIDED: &[u8] =
-    b"dim history 2\nsignature 4 5 on 1\nphil:2\nphil:2\nphil:2\nphil:2\nphil:2\nend 1\n";
-
-/// Stacks that agree with those of `NESTED` in one frame, and in no more.
-pub const MATCHED_BY_ONE: &[u8] =
-    b"dim history 2\nsignature 1 2 on 0\ntake:0 x:0\ntake:0 y:0\nend 1\n";
-
-/// The same stacks, which no stack of `NESTED` agrees with at depth 4.
-pub const MATCHED_BY_FOUR: &[u8] =
-    b"dim history 2\nsignature 4 2 on 0\ntake:0 x:0\ntake:0 y:0\nend 1\n";
-
-/// A signature that no run of `THREE_CROSSED` comes to.
-pub const ELSEWHERE: &[u8] = b"dim history 2\nsignature 1 2 on 0\nw1:0 f1:1\nw1:1\nend 1\n";
-
-/// The signature of the deadlock of `ONE_AGAINST_TWO`, by its first frames.
-pub const FIRST_FRAMES: &[u8] = b"dim history 2\nsignature 1 2 on 0\nw0:0\nw1:0\nend 1\n";
