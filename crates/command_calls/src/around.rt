@@ -6,7 +6,8 @@ use std::alloc::Global;
 use std::sync::Wait;
 use std::thread::Threads;
 
-/// What a call leaves: its status, its files and its sink, and how many entries the callers of its house made.
+/// What a call leaves: its status, its files and its sink, and how many entries the callers of its
+/// house made.
 #[derive(Drop)]
 pub struct Around {
     pub status: u8,
@@ -79,7 +80,8 @@ pub fn over<R: Threads + Wait + Sync>(
     driven(rt, alloc, words, files, MemSink::new(alloc, &[])?)
 }
 
-/// What a call leaves whose words are these, with this program in a file p and this history in a file g.
+/// What a call leaves whose words are these, with this program in a file p and this history in a
+/// file g.
 pub fn loaded<R: Threads + Wait + Sync>(
     rt: &R,
     alloc: Global,
@@ -93,7 +95,8 @@ pub fn loaded<R: Threads + Wait + Sync>(
     over(rt, alloc, words, files)
 }
 
-/// What a call leaves whose words are these, with this program in a file p. The calls on files and on the sink with these numbers fail.
+/// What a call leaves whose words are these, with this program in a file p. The calls on files and
+/// on the sink with these numbers fail.
 pub fn called<R: Threads + Wait + Sync>(
     rt: &R,
     alloc: Global,

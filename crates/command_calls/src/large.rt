@@ -2,7 +2,8 @@
 use std::alloc::{AllocError, Global};
 use std::fmt::Write;
 
-// The text of a history with so many signatures, each of two stacks, behind this first line, and with this behind the words of each signature's line.
+// The text of a history with so many signatures, each of two stacks, behind this first line, and
+// with this behind the words of each signature's line.
 fn signatures(alloc: Global, head: &str, state: &str, count: u32) -> Result<String, AllocError> {
     let mut text = String::from_str(alloc, head)?;
     for i in 0..count {
@@ -17,7 +18,7 @@ pub fn many_signatures(alloc: Global, count: u32) -> Result<String, AllocError> 
     signatures(alloc, "dim history 2\n", " on 0", count)
 }
 
-/// The same in version 1.
+/// The text of a history of version 1 with so many signatures, each of two stacks.
 pub fn many_signatures_before(alloc: Global, count: u32) -> Result<String, AllocError> {
     signatures(alloc, "dim history 1\n", "", count)
 }

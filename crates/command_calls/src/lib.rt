@@ -1,5 +1,5 @@
-//! Calls of the commands over files in memory, for the crates that test them: what a call leaves, the programs and histories that it is given, and a house
-//! whose callers have to meet.
+//! Calls of the commands over files in memory, for the crates that test them: what a call leaves,
+//! the programs and histories that it is given, and a house whose callers have to meet.
 #![tactic(auto)]
 
 mod around;

@@ -1,4 +1,5 @@
-//! The words of commands. Their files are p, a program, g, a history, h, a new history, and t, a trace.
+//! The words of commands. Their files are p, a program, g, a history, h, a new history, and t, a
+//! trace.
 
 /// A run with no history.
 pub const RUN: [&str; 5] = ["run", "p", "-", "h", "t"];

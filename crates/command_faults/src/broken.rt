@@ -51,7 +51,8 @@ fn line_at(cuts: &[(usize, &'static str)], n: usize) -> &'static str {
     ""
 }
 
-// What these words leave over good files p, g and t, of which one has these bytes in place of its own.
+// What these words leave over good files p, g and t, of which one has these bytes in place of its
+// own.
 fn broken<R: Abort + Threads + Wait + Sync>(
     rt: &R,
     alloc: Global,

@@ -48,7 +48,8 @@ fn drive_over<R: Abort + Threads + Wait + Sync>(
     driven(rt, alloc, words.as_slice(), files, out).expect(rt, "an end")
 }
 
-/// What these words leave over these files. The calls on files and on the sink with these numbers fail.
+/// What these words leave over these files. The calls on files and on the sink with these numbers
+/// fail.
 pub fn failing<R: Abort + Threads + Wait + Sync>(
     rt: &R,
     alloc: Global,

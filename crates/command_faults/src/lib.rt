@@ -1,4 +1,5 @@
-//! Tests: what is refused, with which status and line, and what `check`, `show` and `switch` say and leave.
+//! Tests: what is refused, with which status and line, and what `check`, `show` and `switch` say
+//! and leave.
 #![tactic(auto)]
 
 #[cfg(test)]

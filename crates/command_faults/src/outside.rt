@@ -12,7 +12,8 @@ use std::thread::Threads;
 // Good files.
 const GOOD: [(&str, &[u8]); 3] = [("p", SMALLEST), ("g", EMPTY), ("t", traces::SMALLEST)];
 
-// Words, the call on files that fails, the line that is put, and how much of the new history h and of the trace s is there then.
+// Words, the call on files that fails, the line that is put, and how much of the new history h and
+// of the trace s is there then.
 type Fault = (&'static str, u32, &'static str, usize, usize);
 
 // A store that fails leaves its first half.
@@ -69,7 +70,8 @@ fn each_file_may_be_absent(rt: HostRuntime) {
     }
 }
 
-// Words whose put fails, and their status: a report that can't be put is told by it, and a refusal's line isn't.
+// Words whose put fails, and their status: a report that can't be put is told by it, and a
+// refusal's line isn't.
 const SILENCES: [(&str, u8); 10] = [
     ("run p g h s", 8),
     ("live p g h s", 8),

@@ -2,7 +2,8 @@
 use dim_base::{Bytes, Fetch, Files, Store, Word};
 use std::alloc::Global;
 
-/// Files that always answer that memory ran out. They tell nothing of what they hold, and no call on them is a fault.
+/// Files that always answer that memory ran out. They tell nothing of what they hold, and no call
+/// on them is a fault.
 #[derive(Drop)]
 pub struct Wanting;
 

@@ -24,7 +24,8 @@ pub fn call<R: Abort + Threads + Wait + Sync>(
     called(rt, alloc, words, program, &[], &[]).expect(rt, "memory")
 }
 
-/// The same, where the calls on files and on the sink with these numbers fail.
+/// What a call leaves whose words are these, with this program in a file p. The calls on files and
+/// on the sink with these numbers fail.
 pub fn call_failing<R: Abort + Threads + Wait + Sync>(
     rt: &R,
     alloc: Global,

@@ -1,4 +1,5 @@
-//! Workers that are at their doors at the same time: a round or a run that took one slice after the other would fail here.
+//! Workers that are at their doors at the same time: a round or a run that took one slice after the
+//! other would fail here.
 use crate::calls::files_of;
 use crate::reports::{as_text, sum_at};
 use crate::seats::{begin, finish, seat_of};

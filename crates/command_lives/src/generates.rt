@@ -74,7 +74,8 @@ fn a_generated_program_runs_alike_twice(rt: HostRuntime) {
     runs_alike_twice(&rt, rt.alloc(), text.as_slice());
 }
 
-// What is left of two runs of a number's program with so much fuel, of which the second loads what the first has learnt.
+// What is left of two runs of a number's program with so much fuel, of which the second loads what
+// the first has learnt.
 fn run_twice<R: Abort + Threads + Wait + Sync>(rt: &R, alloc: Global, fuel: &str) -> Around {
     let words = [
         "run",
@@ -108,7 +109,8 @@ fn reports<R: Abort + Threads + Wait + Sync>(rt: &R, alloc: Global, fuel: &str, 
     assert!(rt; as_text(after.out.taken()).contains(line), "fuel {fuel}");
 }
 
-// One unit at the start, 39 for each of a hundred loops, and two for the last test. The end wants one more, and doesn't take it.
+// One unit at the start, 39 for each of a hundred loops, and two for the last test. The end wants
+// one more, and doesn't take it.
 #[test]
 fn a_generated_thread_uses_3903_units(rt: HostRuntime) {
     reports(&rt, rt.alloc(), "3903", "thread 0 spent ");

@@ -31,7 +31,8 @@ const QUANTA: [&str; 5] = ["1", "2", "3", "4", "16"];
 
 const WORKERS: [&str; 2] = ["2", "4"];
 
-// What came of many runs: how many there were, in how many a deadlock was learnt, and in how many a thread yielded.
+// What came of many runs: how many there were, in how many a deadlock was learnt, and in how many a
+// thread yielded.
 #[derive(Drop)]
 struct Tally {
     runs: u32,
@@ -108,8 +109,9 @@ fn live_all<R: Abort + Threads + Wait + Sync>(rt: &R, alloc: Global, tally: &mut
     }
 }
 
-// With slices of two moves both threads of `CROSSED` take their first locks in the first round: so a deadlock is learnt, and once it is known one
-// of them yields, however their calls fall in with each other.
+// With slices of two moves both threads of `CROSSED` take their first locks in the first round: so
+// a deadlock is learnt, and once it is known one of them yields, however their calls fall in with
+// each other.
 #[test]
 fn two_hundred_live_runs_are_checked(rt: HostRuntime) {
     let mut tally = Tally {
@@ -123,7 +125,8 @@ fn two_hundred_live_runs_are_checked(rt: HostRuntime) {
     assert!(rt; tally.learnt > 0 && tally.yielded > 0);
 }
 
-// The words of a report behind which numbers of entries stand, with the words of their lines in a trace.
+// The words of a report behind which numbers of entries stand, with the words of their lines in a
+// trace.
 const KINDS: [(&str, &[&str]); 9] = [
     ("go", &["go"]),
     ("yield", &["yield"]),

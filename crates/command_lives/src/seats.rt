@@ -1,4 +1,5 @@
-//! The seats of a round of two threads, made by hand: a gate with room for six entries, two passes, and the machines at their start.
+//! The seats of a round of two threads, made by hand: a gate with room for six entries, two passes,
+//! and the machines at their start.
 ghost use Rattle.std.specs.Prelude.{◌≡◌, ℕ, ◌≤◌, ◌<◌, [], slice_index_or, vec_capacity, IfOk};
 ghost use Rattle.dim_asm.specs.Code.{thread_count, lock_count};
 ghost use Rattle.dim_run.specs.Gates.{Owns, known, opening_of};
@@ -25,7 +26,8 @@ pub fn gate_for(alloc: Global, program: &Program) -> Result<GateState, OutOfMemo
     Ok(gate)
 }
 
-/// A gate of the house, for a program of two threads, with the passes of both, and the list that they were in.
+/// A gate of the house, for a program of two threads, with the passes of both, and the list that
+/// they were in.
 pub fn begin<H: House>(
     alloc: Global,
     house: &mut H,

@@ -160,7 +160,8 @@ fn what_is_learnt_has_the_depth_of_the_settings(rt: HostRuntime) {
     leaves_alone(&rt, rt.alloc(), &DEPTH_OF_32, CROSSED, left);
 }
 
-// The first thread says 9 and then -5, and drops more than it has; the second says 7 as long as it can.
+// The first thread says 9 and then -5, and drops more than it has; the second says 7 as long as it
+// can.
 const SAYING: &[u8] =
     b"dim program 1\nfunc main 0\nPUSH 9\nSAY\nPUSH -5\nSAY\nPOP\nPOP\nRET\nend\nfunc loop 0\nDUP\nSAY\nJMP 0\nend\nthread main 0\nthread loop 7\nend program\n";
 

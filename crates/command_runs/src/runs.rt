@@ -73,8 +73,8 @@ fn a_deadlock_that_is_known_is_avoided(rt: HostRuntime) {
     leaves(&rt, rt.alloc(), &SHORT_SLICES, CROSSED, LEARNT_BEFORE, left);
 }
 
-// What the runs of `CHAINED` and of `LEADS_ON` leave: the signature that was loaded has kept one thread from its lock, and the two that starved then
-// had taken their first locks.
+// What the runs of `CHAINED` and of `LEADS_ON` leave: the signature that was loaded has kept one
+// thread from its lock, and the two that starved then had taken their first locks.
 const STARVED: &[u8] =
     b"dim history 2\nsignature 4 2 on 1\nleft:0\nright:1\nsignature 4 2 on 0\nleft:0\nright:0\nend 2\n";
 

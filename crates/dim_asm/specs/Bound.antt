@@ -9,7 +9,8 @@ own_names p = table_of (func_names p.funcs)
 
 -- each function has the number that its name has in the table
 abbrev pub IsBound : List (List ℕ) → Code → Type 0
-IsBound names p = (f : ℕ) → f < func_count p → number_among names (func_name_of p f) ≡ Some (number_of p f)
+IsBound names p = (f : ℕ) → f < func_count p
+    → number_among names (func_name_of p f) ≡ Some (number_of p f)
 
 -- a function with its number in a table, and with 0 where its name isn't there
 abbrev pub numbered : List (List ℕ) → Function → Function
@@ -34,7 +35,8 @@ KeptLaw = (names : List (List ℕ)) (p : Code) → SameButNumbers p (bound names
 
 -- bound to a table that has all names, a program has its numbers there
 abbrev pub NumbersLaw : Type 0
-NumbersLaw = (names : List (List ℕ)) (p : Code) → HasNames names (func_names p.funcs) → IsBound names (bound names p)
+NumbersLaw = (names : List (List ℕ)) (p : Code) → HasNames names (func_names p.funcs)
+    → IsBound names (bound names p)
 
 -- the last table counts
 abbrev pub LastLaw : Type 0

@@ -7,7 +7,8 @@ use Rattle.dim_asm.specs.declared.op.Op.{Op}
 use Rattle.dim_asm.specs.declared.op.Op.TheVariants.{Jmp, Jz, GetL, PutL, Call, Lock, Unlock, TryLock}
 use Rattle.dim_asm.specs.declared.start.Start.{Start}
 
--- a function: its name, how many locals it has, its number in the table of names, and its instructions
+-- a function: its name, how many locals it has, its number in the table of names, and its
+-- instructions
 pub record Function : Type 0 where
   pub name : List ℕ
   pub locals : ℕ

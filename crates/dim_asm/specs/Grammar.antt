@@ -45,10 +45,12 @@ IsDraft (Refers naming name) = IsName name
 abbrev pub HasPlace : Source → Statement → Type 0
 HasPlace s Head = ⊤
 HasPlace s (LockLine name) = IsName name × (length s.locks ≢ 256) × (has_name s.locks name ≡ false)
-HasPlace s (FuncLine name locals) = IsName name × (locals ≤ 16) × (length s.funcs ≢ 256) × (has_name (names_of s) name ≡ false)
+HasPlace s (FuncLine name locals) = IsName name × (locals ≤ 16) × (length s.funcs ≢ 256)
+    × (has_name (names_of s) name ≡ false)
 HasPlace s (OpLine draft) = IsDraft draft × (draft_count s.funcs ≢ 65536)
 HasPlace s EndLine = last_size s.funcs ≢ 0
-HasPlace s (ThreadLine func argument) = IsName func × FitsSigned w64 argument × (length s.threads ≢ 32)
+HasPlace s (ThreadLine func argument) = IsName func × FitsSigned w64 argument
+    × (length s.threads ≢ 32)
 HasPlace s Close = ⊤
 
 -- a function as it stands in a text, without its end and with it

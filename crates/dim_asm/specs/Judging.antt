@@ -1,4 +1,5 @@
--- The first pass: what a line says, by what was read before it, or the first kind of fault that applies to it.
+-- The first pass: what a line says, by what was read before it, or the first kind of fault that
+-- applies to it.
 use Rattle.std.specs.Prelude.{ℕ, ◌==◌, List, [], ◌∷◌, length, Result, Ok, Err, if◌then◌else◌, codes}
 use Rattle.std.specs.Str.{bytes_eq}
 use Rattle.dim_text.specs.Cuts.{words_of, lines_of}

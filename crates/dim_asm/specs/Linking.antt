@@ -47,14 +47,16 @@ unfoldable pub link_start : Tables → DraftStart → Result Start AsmKind
 link_start t start = or_else (place_of t.names start.func) Unknown >>= λ f. Ok (record { func = f; argument = start.argument })
 
 -- each of these, where the first stands in line n
-unfoldable pub each_line : {A B : Type 0} → (A → Result B AsmKind) → ℕ → List A → Result (List B) AsmFault
+unfoldable pub each_line : {A B : Type 0} → (A → Result B AsmKind) → ℕ → List A
+    → Result (List B) AsmFault
 each_line link n [] = Ok []
 each_line link n (x ∷ xs) = do
   y ← in_line fault n (link x)
   ys ← each_line link (n + 1) xs
   Ok (y ∷ ys)
 
--- a function, which begins in line n; it has the number 0 until the program is bound to a table of names
+-- a function, which begins in line n; it has the number 0 until the program is bound to a table of
+-- names
 unfoldable pub link_function : Tables → ℕ → DraftFunction → Result Function AsmFault
 link_function t n f = do
   ops ← each_line (link_draft t (length f.drafts)) (n + 1) f.drafts

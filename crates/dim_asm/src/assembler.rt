@@ -33,7 +33,8 @@ fn read(alloc: Global, bytes: &[u8]) -> Result<Reader<'_>, AsmError>
     Ok(reader)
 }
 
-/// The program that a text spells, bound to the table of its own names, or the first fault of the text.
+/// The program that a text spells, bound to the table of its own names, or the first fault of the
+/// text.
 pub fn assemble(alloc: Global, bytes: &[u8]) -> Result<Program, AsmError>
     ensures program { Gives fault_of (λ p. p) result (program_of bytes.now) }
     ensures bound { IfOk result (λ p. IsBound (own_names p) p) }

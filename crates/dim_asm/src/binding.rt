@@ -21,8 +21,9 @@ impl Program {
         Names::of(alloc, &words)
     }
 
-    /// Binds it to a table of names, in which each of its function names has to stand: the number of a function is then that of its name in
-    /// the table. It takes no memory, and nothing else changes.
+    /// Binds it to a table of names, in which each of its function names has to stand: the number
+    /// of a function is then that of its name in the table. It takes no memory, and nothing else
+    /// changes.
     pub fn bind(&mut self, names: &Names)
         requires { HasNames names.now (func_names self.old.funcs) }
         ensures bound { self.new ≡ bound names.now self.old }
@@ -62,8 +63,9 @@ fn words_of(alloc: Global, funcs: &[Function]) -> Result<Vec<Word>, OutOfMemory>
     Ok(words)
 }
 
-/// What it means to bind a program to a table of names: nothing but numbers changes, they are those of the table where it has all names, and
-/// the last table counts. The table of a program's own names has all of them.
+/// What it means to bind a program to a table of names: nothing but numbers changes, they are those
+/// of the table where it has all names, and the last table counts. The table of a program's own
+/// names has all of them.
 pub fn bind_law()
     ensures kept { KeptLaw }
     ensures numbers { NumbersLaw }

@@ -9,7 +9,8 @@ use std::alloc::AllocFailed;
 /// What a line breaks.
 #[derive(Clone, Copy, Debug, PartialEq, Eq)]
 pub enum AsmKind {
-    /// The line's first word may not stand at this place, the line has no line feed, or it's missing or too much.
+    /// The line's first word may not stand at this place, the line has no line feed, or it's
+    /// missing or too much.
     Word,
     /// An argument isn't a number of its range.
     Number,
@@ -19,8 +20,8 @@ pub enum AsmKind {
     Double,
     /// A name isn't declared.
     Unknown,
-    /// The line has another number of words than its first word asks, or a space too many; a function has no instruction; or a
-    /// jump leaves its function.
+    /// The line has another number of words than its first word asks, or a space too many; a
+    /// function has no instruction; or a jump leaves its function.
     Shape,
     /// There are more locks, functions, threads or instructions than a program may have.
     Limit,
@@ -80,7 +81,7 @@ impl<T: Drop> From<AllocFailed<T>> for AsmError {
     }
 }
 
-/// The same with the line of a fault.
+/// The answer for a line that was judged: its value, or its fault with the number of the line.
 pub fn in_line<T>(line: u32, judged: Result<T, AsmKind>) -> Result<T, AsmError>
     ensures { Gives fault_of (λ x. x) result (in_line fault line judged) }
 {

@@ -1,6 +1,7 @@
 use dim_base::Lid;
 
-/// An instruction. Offsets count from 0 in a function, and functions, locks and locals are told by their numbers.
+/// An instruction. Offsets count from 0 in a function, and functions, locks and locals are told by
+/// their numbers.
 #[derive(Clone, Copy, Debug, PartialEq, Eq)]
 pub enum Op {
     /// Pushes n.

@@ -24,7 +24,8 @@ fn text_of_program(alloc: Global, program: &Program) -> Result<String, AllocErro
     Ok(text)
 }
 
-/// The one text of a program. It's assembled again to the same program, bound to the table of its own names.
+/// The one text of a program. It's assembled again to the same program, bound to the table of its
+/// own names.
 pub fn print(alloc: Global, program: &Program) -> Result<Bytes, OutOfMemory>
     ensures text { IfOk result (λ bytes. bytes ≡ program_text program.now) }
     ensures again { IfOk result

@@ -46,10 +46,12 @@ FetchCause before now (Err fetch.Failed) = Rose before now
 FetchCause before now (Err fetch.Absent) = now ≡ before
 FetchCause before now r = before ≤ now
 
--- what a store leaves: the bytes under the name; anything or nothing under it, where it failed; or all as before
+-- what a store leaves: the bytes under the name; anything or nothing under it, where it failed; or
+-- all as before
 abbrev pub Stores : List ℕ → List ℕ → Option Named → Option Named → Result (Unit {0}) Store → Type 0
 Stores name bytes old new (Ok u) = new ≡ option_map (λ files. with_file files name (Some bytes)) old
-Stores name bytes old new (Err store.Failed) = (left : Option (List ℕ)) × (new ≡ option_map (λ files. with_file files name left) old)
+Stores name bytes old new (Err store.Failed) = (left : Option (List ℕ))
+    × (new ≡ option_map (λ files. with_file files name left) old)
 Stores name bytes old new (Err store.OutOfMemory) = new ≡ old
 
 -- the count of faults goes by the answer of a store

@@ -55,7 +55,8 @@ pub trait Files {
     /// How often the files have failed. This never falls, and stands still at the end of its type.
     ghost faults: { Self → ℕ };
 
-    /// The bytes under a name, at most `limit` of them. A call that fails answers so, whatever stands there.
+    /// The bytes under a name, at most `limit` of them. A call that fails answers so, whatever
+    /// stands there.
     fn fetch(&mut self, alloc: Global, name: &Word, limit: u64) -> Result<Bytes, Fetch>
         ensures limit { IfOk result (λ bytes. length bytes ≤ limit) }
         ensures long { SaysLimit limit result }

@@ -1,4 +1,5 @@
-//! Numbers of threads and locks, texts and bytes, and the files and the sink that a program is handed.
+//! Numbers of threads and locks, texts and bytes, and the files and the sink that a program is
+//! handed.
 #![tactic(auto)]
 
 mod failing_calls;

@@ -71,8 +71,8 @@ impl Files for SureFiles {
     }
 }
 
-/// Files that fail at the calls of the trait with the numbers that they were given, counted from 1. A store that fails
-/// leaves the first half of the bytes.
+/// Files that fail at the calls of the trait with the numbers that they were given, counted from 1.
+/// A store that fails leaves the first half of the bytes.
 #[derive(Drop)]
 pub struct MemFiles {
     sure: SureFiles,
@@ -153,7 +153,8 @@ impl Files for MemFiles {
         ensures cause { StoreCause self.old.faults self.new.faults result }
         ensures count { self.new.faults ≡ store_count self.old.faults result }
 
-        // It fails exactly where the number of the call is in the list, unless memory runs out, and leaves a half then.
+        // It fails exactly where the number of the call is in the list, unless memory runs out, and
+        // leaves a half then.
         ensures counted { calls_of self.new ≡ next_call (calls_of self.old) }
         ensures failing { failing_of self.new ≡ failing_of self.old }
         ensures fails { IsErrOf result Store.Failed

@@ -56,8 +56,8 @@ impl Sink for SureSink {
     }
 }
 
-/// A sink that fails at the calls with the numbers that it was given, counted from 1. It takes the first half of the
-/// bytes then.
+/// A sink that fails at the calls with the numbers that it was given, counted from 1. It takes the
+/// first half of the bytes then.
 #[derive(Drop)]
 pub struct MemSink {
     sure: SureSink,
@@ -105,7 +105,8 @@ impl Sink for MemSink {
         ensures cause { PutCause self.old.faults self.new.faults result }
         ensures count { self.new.faults ≡ put_count self.old.faults result }
 
-        // It fails exactly where the number of the call is in the list, unless memory runs out, and leaves a half then.
+        // It fails exactly where the number of the call is in the list, unless memory runs out, and
+        // leaves a half then.
         ensures counted { calls_of self.new ≡ next_call (calls_of self.old) }
         ensures failing { failing_of self.new ≡ failing_of self.old }
         ensures fails { IsErrOf result Put.Failed

@@ -8,8 +8,8 @@ use std::alloc::Global;
 use std::io::{self, ErrorKind};
 use std::{fs, rt};
 
-/// The files of the current folder. A store replaces a plain file by one that was written beside it; what can't be replaced is
-/// written over.
+/// The files of the current folder. A store replaces a plain file by one that was written beside
+/// it; what can't be replaced is written over.
 #[derive(Drop)]
 pub struct DirFiles<'a, R: rt::Files> {
     rt: &'a R,

@@ -1,4 +1,5 @@
-//! A file is replaced whole: its bytes are written under a name beside it, which then becomes its own.
+//! A file is replaced whole: its bytes are written under a name beside it, which then becomes its
+//! own.
 use crate::OutOfMemory;
 use crate::streams::write_all;
 use std::alloc::Global;
@@ -37,8 +38,8 @@ fn may_write<R: rt::Files>(rt: &R, name: &str) -> bool {
     File::options().write(true).open(rt, name).is_ok()
 }
 
-// Puts the bytes under the name, in place of what stands there, and tells whether all were taken. A plain file is replaced, and what
-// can't be is written over.
+// Puts the bytes under the name, in place of what stands there, and tells whether all were taken. A
+// plain file is replaced, and what can't be is written over.
 pub(crate) fn put_under<R: rt::Files>(
     alloc: Global,
     rt: &R,

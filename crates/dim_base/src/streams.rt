@@ -1,4 +1,5 @@
-//! All bytes of a reader, and all bytes to a writer. What was interrupted is tried again, as std does.
+//! All bytes of a reader, and all bytes to a writer. What was interrupted is tried again, as std
+//! does.
 ghost use Rattle.std.specs.Prelude.{◌≡◌, ◌≤◌, length, Some, IfOk, IfSome, IsErrOf, IsTrue};
 ghost use Rattle.std.specs.Io.KnownBytes.{Appends};
 ghost use Rattle.dim_base.specs.Files.{Fetches, FetchCause, SaysLimit, fetched};

@@ -4,7 +4,8 @@ use std::alloc::Global;
 use std::io::{self, ErrorKind, Read, Write};
 use std::process::Abort;
 
-// A reader that gives its bytes three at a time, was interrupted before the first, and fails where none is left and it is to fail.
+// A reader that gives its bytes three at a time, was interrupted before the first, and fails where
+// none is left and it is to fail.
 #[derive(Drop)]
 struct Pieces<'a> {
     left: &'a [u8],

@@ -1,4 +1,5 @@
--- How the functions of a generated program stand in its text: with the names of locks and functions.
+-- How the functions of a generated program stand in its text: with the names of locks and
+-- functions.
 use Rattle.std.specs.Prelude.{ℕ, ◌+◌, ◌*◌, ◌%◌, List, [], ◌∷◌, ◌++◌, map, pos, codes}
 use Rattle.rand_pcg.specs.Lcg.{Lcg}
 use Rattle.dim_asm.specs.declared.op.Op.TheVariants as op
@@ -15,7 +16,8 @@ abbrev pub taker_draft : ℕ → ℕ → ℕ → DraftFunction
 taker_draft i x y = record {
   name = numbered (codes "f") i;
   locals = 0;
-  drafts = Refers naming.Lock (lock_name x) ∷ Refers naming.Lock (lock_name y) ∷ Refers naming.Unlock (lock_name y) ∷ Refers naming.Unlock (lock_name x) ∷ Ready op.Ret ∷ [];
+  drafts = Refers naming.Lock (lock_name x) ∷ Refers naming.Lock (lock_name y)
+      ∷ Refers naming.Unlock (lock_name y) ∷ Refers naming.Unlock (lock_name x) ∷ Ready op.Ret ∷ [];
 }
 
 abbrev pub caller_draft : ℕ → ℕ → ℕ → ℕ → ℕ → DraftFunction
@@ -23,8 +25,10 @@ caller_draft i a b c d = record {
   name = numbered (codes "m") i;
   locals = 1;
   drafts =
-      Ready (op.PutL 0) ∷ Ready (op.GetL 0) ∷ Ready (op.Jz 12) ∷ called a ∷ called b ∷ called c ∷ called d
-      ∷ Ready (op.GetL 0) ∷ Ready (op.Push (pos 1)) ∷ Ready op.Sub ∷ Ready (op.PutL 0) ∷ Ready (op.Jmp 1) ∷ Ready op.Ret ∷ [];
+      Ready (op.PutL 0) ∷ Ready (op.GetL 0) ∷ Ready (op.Jz 12) ∷ called a ∷ called b ∷ called c
+      ∷ called d
+      ∷ Ready (op.GetL 0) ∷ Ready (op.Push (pos 1)) ∷ Ready op.Sub ∷ Ready (op.PutL 0)
+      ∷ Ready (op.Jmp 1) ∷ Ready op.Ret ∷ [];
 }
 
 -- the word of a generator that comes after p others

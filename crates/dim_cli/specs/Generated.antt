@@ -35,12 +35,14 @@ second_lock v w = (first_lock v + 1 + w % 15) % 16
 
 -- take both locks, and free them
 abbrev pub taking : ℕ → ℕ → List Op
-taking x y = op.Lock (record { 0 = x }) ∷ op.Lock (record { 0 = y }) ∷ op.Unlock (record { 0 = y }) ∷ op.Unlock (record { 0 = x }) ∷ op.Ret ∷ []
+taking x y = op.Lock (record { 0 = x }) ∷ op.Lock (record { 0 = y }) ∷ op.Unlock (record { 0 = y })
+    ∷ op.Unlock (record { 0 = x }) ∷ op.Ret ∷ []
 
 -- call four functions, as many times as the argument says
 abbrev pub looping : ℕ → ℕ → ℕ → ℕ → List Op
 looping a b c d =
-    op.PutL 0 ∷ op.GetL 0 ∷ op.Jz 12 ∷ op.Call a ∷ op.Call b ∷ op.Call c ∷ op.Call d ∷ op.GetL 0 ∷ op.Push (pos 1) ∷ op.Sub ∷ op.PutL 0 ∷ op.Jmp 1 ∷ op.Ret ∷ []
+    op.PutL 0 ∷ op.GetL 0 ∷ op.Jz 12 ∷ op.Call a ∷ op.Call b ∷ op.Call c ∷ op.Call d ∷ op.GetL 0
+    ∷ op.Push (pos 1) ∷ op.Sub ∷ op.PutL 0 ∷ op.Jmp 1 ∷ op.Ret ∷ []
 
 -- function f00 to f31: word 2 * i and the next one draw its locks
 abbrev pub taker : ℕ → ℕ → Function

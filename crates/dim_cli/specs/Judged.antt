@@ -13,7 +13,9 @@ use Rattle.dim_cli.specs.Output.{Inputs, names_of, program_of, loaded_of}
 use Rattle.dim_cli.specs.Course.{tells, check_course}
 use Rattle.dim_cli.specs.Headline.{IsUnder}
 
--- The verdict that is told is that on the entries of the trace, for the program and the history, all as they were fetched, with the fuel and the depth of the trace. `Yes` is that they execute the program. `No` is the first place and the rule that they break.
+-- The verdict that is told is that on the entries of the trace, for the program and the history,
+-- all as they were fetched, with the fuel and the depth of the trace. `Yes` is that they execute
+-- the program. `No` is the first place and the rule that they break.
 pub record Judged (w : CheckWords) (before : Named) (verdict : Verdict) : Type 0 where
   pub program : List ℕ
   pub history : List ℕ

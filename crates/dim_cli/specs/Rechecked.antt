@@ -18,5 +18,7 @@ pub record AreKept (w : RunWords) (before after files : Named) : Type 0 where
 
 -- Over such files the check of a run says yes, and the number of its entries.
 abbrev pub StoredLaw : Type 0
-StoredLaw = (w : RunWords) (status : ℕ) (before after files : Named) (h : Headline w status before after) → IsGood w before h.inputs
-    → AreKept w before after files → (check_course files (check_of w)).ending ≡ Ok (checked (length h.entries))
+StoredLaw = (w : RunWords) (status : ℕ) (before after files : Named) (h : Headline w status before after)
+    → IsGood w before h.inputs
+    → AreKept w before after files
+    → (check_course files (check_of w)).ending ≡ Ok (checked (length h.entries))

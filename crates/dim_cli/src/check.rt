@@ -115,7 +115,8 @@ fn judge(alloc: Global, given: &Given) -> Result<Report, Stop>
     }
 }
 
-/// Fetches and reads a program, a history and a trace, and says whether the trace's entries execute the program on the history.
+/// Fetches and reads a program, a history and a trace, and says whether the trace's entries execute
+/// the program on the history.
 pub fn check<F: Files>(
     alloc: Global,
     command: &CheckCommand<'_>,

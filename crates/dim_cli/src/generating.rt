@@ -202,9 +202,11 @@ fn whole_text(alloc: Global, n: u32) -> Result<String, AllocError>
     Ok(text)
 }
 
-/// The text of the program that a number stands for: 16 locks, 32 functions that each take two locks, and 16 threads that each loop over calls of four of them.
+/// The text of the program that a number stands for: 16 locks, 32 functions that each take two
+/// locks, and 16 threads that each loop over calls of four of them.
 ///
-/// Which locks and which functions these are is drawn from the words of the generator `Pcg32` made by the number: docs/formats.md. The text is a program's.
+/// Which locks and which functions these are is drawn from the words of the generator `Pcg32` made
+/// by the number: docs/formats.md. The text is a program's.
 pub fn generated(alloc: Global, n: u32) -> Result<Bytes, OutOfMemory>
     ensures text { IfOk result (λ bytes. bytes ≡ program_text (generated_program n)) }
     ensures program { program_of (program_text (generated_program n))

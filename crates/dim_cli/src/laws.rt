@@ -1,4 +1,5 @@
-//! Laws of the commands. Each is a function with nothing to do, whose contract is the law: a call of it brings the law to its caller.
+//! Laws of the commands. Each is a function with nothing to do, whose contract is the law: a call
+//! of it brings the law to its caller.
 ghost use Rattle.dim_cli.specs.Rechecked.{StoredLaw};
 
 use dim_trace::verdict_law;

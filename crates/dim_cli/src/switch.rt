@@ -43,7 +43,8 @@ fn read_switched(alloc: Global, bytes: &Bytes, command: &SwitchCommand<'_>) -> R
     Ok(switched_history(history, command.index, command.on))
 }
 
-/// Fetches and reads a history, puts one signature into another state, builds the text and the report, and then stores the text.
+/// Fetches and reads a history, puts one signature into another state, builds the text and the
+/// report, and then stores the text.
 pub fn switch<F: Files>(
     alloc: Global,
     command: &SwitchCommand<'_>,

@@ -6,11 +6,13 @@ use Rattle.dim_gate.specs.FeedId.{FeedId}
 use Rattle.dim_gate.specs.Gate.{Gate, Constants}
 use Rattle.dim_vm.specs.Configuration.{Configuration, start}
 
--- how many signatures are learnt, at most, where so many were loaded: 48, and no more than make 4,096
+-- how many signatures are learnt, at most, where so many were loaded: 48, and no more than make
+-- 4,096
 abbrev pub learns : ℕ → ℕ
 learns loaded = min 48 (4096 - loaded)
 
--- the constants of a program's gate: its threads and locks, the signatures loaded, the depth of those that are learnt, and room for these
+-- the constants of a program's gate: its threads and locks, the signatures loaded, the depth of
+-- those that are learnt, and room for these
 abbrev pub gate_of : Code → List Sig → ℕ → Constants
 gate_of p loaded depth = record { threads = thread_count p; locks = lock_count p; loaded = loaded; depth = depth; cap = length loaded + learns (length loaded) }
 

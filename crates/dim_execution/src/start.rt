@@ -16,8 +16,9 @@ const LEARNS: u32 = 48;
 /// At most so many are known.
 const MOST: u32 = 4096;
 
-/// The gate of a program at its start, for its threads and its locks: its history is empty, it knows these signatures, of which there are at
-/// most 4,080, and has room to learn 48 more, or as many as make 4,096, each of this depth, which is from 1 to 32.
+/// The gate of a program at its start, for its threads and its locks: its history is empty, it
+/// knows these signatures, of which there are at most 4,080, and has room to learn 48 more, or as
+/// many as make 4,096, each of this depth, which is from 1 to 32.
 pub fn new_gate(
     alloc: Global,
     program: &Program,

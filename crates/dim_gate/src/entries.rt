@@ -13,11 +13,13 @@ pub fn entry_place() -> Entry {
     }
 }
 
-/// Writes the entry that a caller's command makes, by the reply to it, to a place. It answers whether the command makes one.
+/// Writes the entry that a caller's command makes, by the reply to it, to a place. It answers
+/// whether the command makes one.
 ///
 /// An entry is large, so it is made where it stays.
 ///
-/// It is inlined, since commands, replies and entries are large, and would else be copied on their way.
+/// It is inlined, since commands, replies and entries are large, and would else be copied on their
+/// way.
 #[inline(always)]
 pub fn write_entry(place: &mut Entry, t: Tid, cmd: &Command, reply: &Reply) -> bool
     ensures made { IsTrue result → entry_by t cmd.now reply.now ≡ Some place.new }

@@ -47,7 +47,8 @@ pub record IsHistory (sigs : List NamedSig) : Type 0 where
   pub signatures : AllByRecursion IsSignature sigs
   pub distinct : AreDistinct sigs
 
--- what a version can say of a state and of yields: version 1 that it is on with 0, version 2 each of both
+-- what a version can say of a state and of yields: version 1 that it is on with 0, version 2 each
+-- of both
 abbrev pub CanSay : Version → Bool → ℕ → Type 0
 CanSay One on yields = (on ≡ true) × (yields ≡ 0)
 CanSay Two on yields = ⊤

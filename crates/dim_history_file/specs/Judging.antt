@@ -1,4 +1,5 @@
--- What a text means: line by line, the first kind of fault that applies, or what has been read behind the line.
+-- What a text means: line by line, the first kind of fault that applies, or what has been read
+-- behind the line.
 use Rattle.std.specs.Prelude.{ℕ, Bool, true, false, not, ◌==◌, nat_lt, List, [], ◌∷◌, ◌++◌, length, Option, Some, None, Result, Ok, Err, if◌then◌else◌, codes}
 use Rattle.std.specs.List.{list_all}
 use Rattle.std.specs.Ordering.{is_lt}
@@ -55,7 +56,8 @@ head_line sigs line = do
   version ← or_else (version_of line) kind.Head
   Ok (record { version = version; stage = Due; sigs = sigs })
 
--- what a signature's line has behind its first word: two or three words that are numbers where all is well, and a state
+-- what a signature's line has behind its first word: two or three words that are numbers where all
+-- is well, and a state
 pub record Form : Type 0 where
   pub depth : List ℕ
   pub count : List ℕ
@@ -135,7 +137,8 @@ frames_of (word ∷ words) = do
   frames ← frames_of words
   Ok (frame ∷ frames)
 
--- a stack: that each word has a colon is judged first, then their number, and then the frames from left to right
+-- a stack: that each word has a colon is judged first, then their number, and then the frames from
+-- left to right
 unfoldable pub stack_of : List (List ℕ) → Result (List NamedFrame) FileKind
 stack_of words = do
   _ ← unless (not (list_all has_sides words)) Line
@@ -159,7 +162,8 @@ abbrev pub signature_with : Opening → List (List NamedFrame) → NamedSig
 signature_with opening stacks = record { depth = opening.depth; stacks = stacks; on = opening.on; yields = opening.yields }
 
 -- behind a stack
-abbrev pub with_stack : Version → List NamedSig → Begun → List (List NamedFrame) → Result State FileKind
+abbrev pub with_stack : Version → List NamedSig → Begun → List (List NamedFrame)
+    → Result State FileKind
 with_stack version sigs begun stacks =
     if length stacks == begun.opening.count then with_signature version sigs (signature_with begun.opening stacks)
     else Ok (record { version = version; stage = Within (record begun { stacks = stacks }); sigs = sigs })

@@ -13,8 +13,10 @@ reading = record { step = step; at_end = at_end; start = start }
 
 -- the fault that is read is the first of the text
 abbrev pub FoundLaw : Type 0
-FoundLaw = (bytes : List ℕ) (f : FileFault) → history_of bytes ≡ Err f → IsFirstFault reading bytes f.line f.kind
+FoundLaw = (bytes : List ℕ) (f : FileFault) → history_of bytes ≡ Err f
+    → IsFirstFault reading bytes f.line f.kind
 
 -- and where a text has a first fault, it is read
 abbrev pub OnlyLaw : Type 0
-OnlyLaw = (bytes : List ℕ) (n : ℕ) (kind : FileKind) → IsFirstFault reading bytes n kind → history_of bytes ≡ Err (fault n kind)
+OnlyLaw = (bytes : List ℕ) (n : ℕ) (kind : FileKind) → IsFirstFault reading bytes n kind
+    → history_of bytes ≡ Err (fault n kind)

@@ -33,7 +33,8 @@ spelled (EndLine count) = line_of (codes "end" ∷ decimal count ∷ [])
 
 -- the lines of a signature, of which the first tells how many stacks it has
 abbrev pub open_lines : Version → Opening → List (List NamedFrame) → List Line
-open_lines version opening stacks = SignatureLine version opening ∷ map (λ stack. StackLine stack) stacks
+open_lines version opening stacks = SignatureLine version opening
+    ∷ map (λ stack. StackLine stack) stacks
 
 -- what the line of a signature says
 abbrev pub opening_for : NamedSig → Opening
@@ -53,7 +54,8 @@ history_lines version sigs = lines_before_end version sigs ++ EndLine (length si
 abbrev pub lines_at : Version → Stage → List NamedSig → List Line
 lines_at version Head sigs = []
 lines_at version Due sigs = lines_before_end version sigs
-lines_at version (Within begun) sigs = lines_before_end version sigs ++ open_lines version begun.opening begun.stacks
+lines_at version (Within begun) sigs = lines_before_end version sigs
+    ++ open_lines version begun.opening begun.stacks
 lines_at version Closed sigs = history_lines version sigs
 
 abbrev pub lines_so_far : State → List Line

@@ -68,7 +68,8 @@ names_of_stack stack = map (λ f. f.name) stack
 abbrev pub names_used : List NamedSig → List (List ℕ)
 names_used sigs = flat_map (λ s. flat_map names_of_stack s.stacks) sigs
 
--- frames are compared by name and then by offset, stacks frame by frame, and a proper prefix comes first
+-- frames are compared by name and then by offset, stacks frame by frame, and a proper prefix comes
+-- first
 abbrev pub frame_order : NamedFrame → NamedFrame → Ordering
 frame_order = then_cmp (on (λ f. f.name) name_cmp) (on (λ f. f.at) nat_cmp)
 

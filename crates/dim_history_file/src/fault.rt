@@ -10,11 +10,13 @@ use dim_text::Stop;
 pub enum FileKind {
     /// The first line is neither `dim history 1` nor `dim history 2` with its line feed.
     Head,
-    /// The line has no line feed, or isn't there; or it isn't of the form that is due, or has a space too many.
+    /// The line has no line feed, or isn't there; or it isn't of the form that is due, or has a
+    /// space too many.
     Line,
     /// What stands before a colon isn't a name.
     Name,
-    /// A depth, a count, a number of yields, an offset or the number behind `end` isn't a number of its range.
+    /// A depth, a count, a number of yields, an offset or the number behind `end` isn't a number of
+    /// its range.
     Number,
     /// A stack is less than the one before it.
     Unsorted,

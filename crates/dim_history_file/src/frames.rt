@@ -89,7 +89,8 @@ fn frames(
     Ok(frames)
 }
 
-// The kind of fault of a line that spells no stack. It is this one where the fault is that of a frame.
+// The kind of fault of a line that spells no stack. It is this one where the fault is that of a
+// frame.
 #[tactic(auto, unfolding(crate::specs::Judging::stack_of))]
 fn fault_of_line(line: &[u8], kind: FileKind) -> FileKind
     requires { length (words_of line.now) ≤ 32 → frames_of (words_of line.now) ≡ Err kind }

@@ -9,7 +9,8 @@ use std::alloc::Global;
 
 /// Signatures, and a table in which each function of their stacks stands.
 ///
-/// What it means is the list of its signatures with functions read as names, so names that no stack uses don't count.
+/// What it means is the list of its signatures with functions read as names, so names that no stack
+/// uses don't count.
 #[derive(Debug, Drop)]
 pub struct History {
     pub names: Names,
@@ -35,8 +36,9 @@ impl History {
         })
     }
 
-    /// Each function of its stacks stands in the table, so that names read as numbers give the catalogue again; and where each stack has 1 to 32 frames and no offset is above 65,535, the history
-    /// has a text.
+    /// Each function of its stacks stands in the table, so that names read as numbers give the
+    /// catalogue again; and where each stack has 1 to 32 frames and no offset is above 65,535, the
+    /// history has a text.
     pub fn law(&self)
         ensures table { IsTable self.now.names }
         ensures catalogue { IsCatalogue self.now.catalogue.sigs }

@@ -1,4 +1,5 @@
-//! What histories and their texts are to one another, as laws. Each is a function with nothing to do.
+//! What histories and their texts are to one another, as laws. Each is a function with nothing to
+//! do.
 ghost use Rattle.std.specs.Prelude.{◌≡◌, ℕ, List, Ok};
 ghost use Rattle.dim_history_file.specs.Value.{NamedSig, migrated};
 ghost use Rattle.dim_history_file.specs.Judging.{history_of};
@@ -18,7 +19,8 @@ pub fn spelling_law()
         history_of bytes ≡ Ok sigs → HasHead version bytes → bytes ≡ text_in version sigs }
 {}
 
-/// The text of a history is read as that history; and that of version 1 as the one with its signatures, all on with 0 yields.
+/// The text of a history is read as that history; and that of version 1 as the one with its
+/// signatures, all on with 0 yields.
 pub fn reading_law()
     ensures again { (sigs : List NamedSig) → IsHistory sigs
         → history_of (history_text sigs) ≡ Ok sigs }
@@ -26,8 +28,10 @@ pub fn reading_law()
         → history_of (text_in One sigs) ≡ Ok (migrated sigs) }
 {}
 
-/// Which fault a text has, by the places of its lines: where all lines before one are taken, each in the state that the one before it led to, and that
-/// one is not, its kind there is the fault that is read. What stands behind the last line feed is judged as the end. No other fault is read.
+/// Which fault a text has, by the places of its lines: where all lines before one are taken, each
+/// in the state that the one before it led to, and that one is not, its kind there is the fault
+/// that is read. What stands behind the last line feed is judged as the end. No other fault is
+/// read.
 pub fn first_fault_law()
     ensures found { FoundLaw }
     ensures only { OnlyLaw }

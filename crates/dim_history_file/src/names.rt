@@ -85,7 +85,8 @@ fn collect(alloc: Global, bytes: &[u8]) -> Result<IndexSet<Word>, OutOfMemory>
     Ok(table)
 }
 
-/// The table of the names in a text. Where there are more than any memory has room for, memory has run out.
+/// The table of the names in a text. Where there are more than any memory has room for, memory has
+/// run out.
 pub fn table(alloc: Global, bytes: &[u8]) -> Result<Names, OutOfMemory>
     ensures { IfOk result (λ n. n ≡ table_of (names_in bytes.now)) }
 {

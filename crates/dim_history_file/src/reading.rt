@@ -37,7 +37,8 @@ fn read_lines(alloc: Global, bytes: &[u8]) -> Result<Reader, ReadFault>
     Ok(reader)
 }
 
-/// The history that a text of version 1 or 2 spells, or the first fault of the text. Signatures of version 1 are on and have 0 yields.
+/// The history that a text of version 1 or 2 spells, or the first fault of the text. Signatures of
+/// version 1 are on and have 0 yields.
 ///
 /// Its names are those that its stacks use. Which kind a fault has stands in docs/formats.md.
 pub fn read(alloc: Global, bytes: &[u8]) -> Result<History, ReadFault>

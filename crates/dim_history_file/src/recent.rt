@@ -28,7 +28,8 @@ impl Recent {
         self.places[usize::from(entry_of(name))] = place;
     }
 
-    /// The number of a name in a table, and None where it is not there. It is noted where it was not guessed.
+    /// The number of a name in a table, and None where it is not there. It is noted where it was
+    /// not guessed.
     pub fn find(&mut self, names: &Names, name: &[u8]) -> Option<u32>
         ensures { result ≡ number_of names.now name.now }
     {

@@ -139,7 +139,8 @@ fn renamed_catalogue(alloc: Global, h: &History, names: &Names) -> Result<Catalo
     Ok(catalogue)
 }
 
-/// The same history with this table of names, in which each of its names has to stand: depths, states and yields stay.
+/// The same history with this table of names, in which each of its names has to stand: depths,
+/// states and yields stay.
 pub fn rename(alloc: Global, h: History, names: &Names) -> Result<History, OutOfMemory>
     requires { HasNames names.now h.names }
     ensures names { IfOk result (λ r. r.names ≡ names.now) }

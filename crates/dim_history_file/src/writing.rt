@@ -76,7 +76,8 @@ fn text_of_history(alloc: Global, h: &History) -> Result<String, AllocError>
     Ok(text)
 }
 
-/// The text of a history, in version 2. Where no offset is above 65,535, it is read again as the same history.
+/// The text of a history, in version 2. Where no offset is above 65,535, it is read again as the
+/// same history.
 pub fn write(alloc: Global, h: &History) -> Result<Bytes, OutOfMemory>
     ensures text { IfOk result (λ text. text ≡ history_text (value_of h.now)) }
     ensures history { IfOk result (λ _. AreNear h.now.catalogue.sigs → IsHistory (value_of h.now)) }

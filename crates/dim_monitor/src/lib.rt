@@ -1,4 +1,5 @@
-//! The monitor: a second graph of a history, of the entries that it is told, and what is stuck or starves in it.
+//! The monitor: a second graph of a history, of the entries that it is told, and what is stuck or
+//! starves in it.
 #![tactic(auto)]
 
 mod cycles;

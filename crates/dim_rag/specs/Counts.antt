@@ -21,9 +21,11 @@ abbrev pub count_by : ℕ → Option Edge → ℕ → ℕ
 count_by t None n = 0
 count_by t (Some e) n = if e.t.0 == t then n else 0
 
--- in a list that fits, t has a hold edge on a lock exactly where it holds it once or more, and nobody holds a lock more than 255 times
+-- in a list that fits, t has a hold edge on a lock exactly where it holds it once or more, and
+-- nobody holds a lock more than 255 times
 pub record CountLaw : Type 0 where
-  pub held : (n m t l : ℕ) (h : List Entry) → Fits h → AreInRange n m h → IsSome (hold t l h) ↔ (1 ≤ count t l h)
+  pub held : (n m t l : ℕ) (h : List Entry) → Fits h → AreInRange n m h
+      → IsSome (hold t l h) ↔ (1 ≤ count t l h)
   pub most : (n m t l : ℕ) (h : List Entry) → Fits h → AreInRange n m h → count t l h ≤ 255
 
 -- an entry that changes but a count: a deeper Took, or an inner Free
@@ -34,6 +36,9 @@ IsQuiet h _ = ⊥
 
 -- in a list that fits, such an entry changes no edge and no mode
 pub record QuietLaw : Type 0 where
-  pub allow_is : (e : Entry) (h : List Entry) → IsQuiet h e → (t l : ℕ) → allow t l (e ∷ h) ≡ allow t l h
-  pub hold_is : (e : Entry) (h : List Entry) → IsQuiet h e → (t l : ℕ) → hold t l (e ∷ h) ≡ hold t l h
-  pub mode_is : (e : Entry) (h : List Entry) → Fits (e ∷ h) → IsQuiet h e → (t : ℕ) → mode t (e ∷ h) ≡ mode t h
+  pub allow_is : (e : Entry) (h : List Entry) → IsQuiet h e → (t l : ℕ)
+      → allow t l (e ∷ h) ≡ allow t l h
+  pub hold_is : (e : Entry) (h : List Entry) → IsQuiet h e → (t l : ℕ)
+      → hold t l (e ∷ h) ≡ hold t l h
+  pub mode_is : (e : Entry) (h : List Entry) → Fits (e ∷ h) → IsQuiet h e → (t : ℕ)
+      → mode t (e ∷ h) ≡ mode t h

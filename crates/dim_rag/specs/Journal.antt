@@ -96,7 +96,8 @@ IsWithin n m (brief.Ended t why) = ⊤
 IsWithin n m (brief.Broken set t) = ⊤
 IsWithin n m (brief.Learnt b) = b < m
 
--- all that is named is there, and there is room for the frames and the births of so many more entries
+-- all that is named is there, and there is room for the frames and the births of so many more
+-- entries
 pub record IsJournal (spare briefs_room frames_room births_room : ℕ) (briefs : List Brief) (frames : List Frame) (births : List (List ℕ)) : Type 0 where
   pub within : All (IsWithin (length frames) (length births)) briefs
   pub few : length births ≤ length briefs

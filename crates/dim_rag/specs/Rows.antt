@@ -36,8 +36,10 @@ allowed_on t l (Ended place) s = None
 
 -- what else is known of a thread in its mode
 abbrev pub IsMode : ℕ → Mode → List Frame → List ℕ → List Entry → Type 0
-IsMode t (Allowed m birth) s births h = (hold t m.0 h ≡ None) × (latest_grant t m.0 h ≡ Some record { t = record { 0 = t }; l = m; stack = s; birth = birth })
-IsMode t (Yielding m place) s births h = (hold t m.0 h ≡ None) × (latest_wish t h ≡ Some record { lock = m; stack = s; births = births; place = place })
+IsMode t (Allowed m birth) s births h = (hold t m.0 h ≡ None)
+    × (latest_grant t m.0 h ≡ Some record { t = record { 0 = t }; l = m; stack = s; birth = birth })
+IsMode t (Yielding m place) s births h = (hold t m.0 h ≡ None)
+    × (latest_wish t h ≡ Some record { lock = m; stack = s; births = births; place = place })
 IsMode t Running s births h = ⊤
 IsMode t (Ended place) s births h = ⊤
 
@@ -72,8 +74,10 @@ pub record IsGraph (threads locks spare : ℕ) (rows : List Row) (holders : List
   pub count_count : length counts ≡ locks
   pub small : length entries + spare < 2 ^ 32
   pub each_row : (t : ℕ) (d : Row) → t < threads → IsRow t (slice_index_or rows t d) (past entries)
-  pub each_holder : (l : ℕ) (d : Option Edge) → l < locks → IsHolder l (slice_index_or holders l d) (past entries)
-  pub each_count : (l : ℕ) → l < locks → IsCount l (slice_index_or holders l None) (slice_index_or counts l 0) (past entries)
+  pub each_holder : (l : ℕ) (d : Option Edge) → l < locks
+      → IsHolder l (slice_index_or holders l d) (past entries)
+  pub each_count : (l : ℕ) → l < locks
+      → IsCount l (slice_index_or holders l None) (slice_index_or counts l 0) (past entries)
   pub holders_in : All (λ o. IfSome o (λ e. e.t.0 < threads)) holders
   pub modes_in : All (λ r. HasLockBelow locks r.mode) rows
   pub all_fit : Fits (past entries)

@@ -9,7 +9,8 @@ use crate::entry::{Entry, MissWhy, Named, Why};
 use dim_base::{Lid, Tid};
 use dim_stack::{Frame, Stack};
 
-/// An entry whose frames and births stay where they are kept, so that it is small. A contract says which entry it shows (`shown`).
+/// An entry whose frames and births stay where they are kept, so that it is small. A contract says
+/// which entry it shows (`shown`).
 #[derive(Clone, Copy)]
 pub enum EntryRef<'a> {
     Go {

@@ -33,10 +33,11 @@ use std::marker::Model;
 use told::Told;
 pub use trail::Trail;
 
-/// The graph after exactly a list of entries that fits, told one by one. It keeps none of them, and only their number.
+/// The graph after exactly a list of entries that fits, told one by one. It keeps none of them, and
+/// only their number.
 ///
-/// A contract sees the numbers of threads and of locks, the entries, oldest first, and `spare`, how many further entries
-/// may be told. No call but `new` takes memory.
+/// A contract sees the numbers of threads and of locks, the entries, oldest first, and `spare`, how
+/// many further entries may be told. No call but `new` takes memory.
 #[derive(Drop)]
 pub struct Graph {
     threads: u32,
@@ -84,7 +85,8 @@ impl Graph {
         })
     }
 
-    /// Allows at least `entries` further entries. The length and `entries` together are below 2^32. It takes no memory.
+    /// Allows at least `entries` further entries. The length and `entries` together are below 2^32.
+    /// It takes no memory.
     pub fn reserve(&mut self, entries: u32)
         requires { length self.old.entries + entries < 2 ^ 32 }
         ensures { self.new ≡ record self.old { spare = max self.old.spare entries } }
@@ -151,7 +153,8 @@ impl Graph {
         self.rows[t.0 as usize].mode
     }
 
-    /// The allow edge of a thread, which has at most one; none exactly where it has none on any lock.
+    /// The allow edge of a thread, which has at most one; none exactly where it has none on any
+    /// lock.
     pub fn allow_of(&self, t: Tid) -> Option<Edge>
         requires { t.0 < self.now.threads }
         ensures some { IfSome result
@@ -196,7 +199,8 @@ impl Graph {
         self.holders[l.0 as usize].link()
     }
 
-    /// The birth of the hold edge of a thread on a lock; none exactly where the thread doesn't hold it. It copies no edge.
+    /// The birth of the hold edge of a thread on a lock; none exactly where the thread doesn't hold
+    /// it. It copies no edge.
     pub fn hold_birth(&self, t: Tid, l: Lid) -> Option<u32>
         requires { l.0 < self.now.locks }
         ensures { result

@@ -20,8 +20,9 @@ use std::marker::Model;
 
 /// The entries of a history, oldest first.
 ///
-/// A contract sees them, and for how many further ones there is room. An entry takes 28 bytes, 8 for each frame of its stack, and
-/// 136 for its births where it has some. No call but `reserve` and `entries` takes memory.
+/// A contract sees them, and for how many further ones there is room. An entry takes 28 bytes, 8
+/// for each frame of its stack, and 136 for its births where it has some. No call but `reserve` and
+/// `entries` takes memory.
 #[derive(Drop)]
 pub struct Journal {
     spare: u32,
@@ -54,7 +55,8 @@ impl Journal {
         }
     }
 
-    /// Makes room for at least `entries` further entries, each with a stack of 32 frames and with births.
+    /// Makes room for at least `entries` further entries, each with a stack of 32 frames and with
+    /// births.
     ///
     /// Where memory runs out, all is as before.
     pub fn reserve(&mut self, entries: u32) -> Result<(), OutOfMemory>
@@ -124,7 +126,8 @@ impl Journal {
         look(&self.frames, &self.births, &self.briefs[place as usize])
     }
 
-    /// The number of the signature that the entry at a place names, where it is a Yield. The place is below the length.
+    /// The number of the signature that the entry at a place names, where it is a Yield. The place
+    /// is below the length.
     pub fn yielded(&self, place: u32) -> Option<u32>
         requires { place < length self.now.entries }
         ensures { slice_get (map yielded self.now.entries) place ≡ Some result }

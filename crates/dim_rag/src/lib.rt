@@ -1,4 +1,5 @@
-//! The entries of a gate's history, and the graph that replays them: edges, modes, standing causes, cycles, stuck sets and starvations.
+//! The entries of a gate's history, and the graph that replays them: edges, modes, standing causes,
+//! cycles, stuck sets and starvations.
 #![tactic(auto)]
 
 mod births;

@@ -27,11 +27,12 @@ use dim_stack::Stack;
 use std::alloc::Global;
 use std::marker::Model;
 
-/// The replay of a list of entries that fits: what edges, modes and cycles there are after exactly that list.
+/// The replay of a list of entries that fits: what edges, modes and cycles there are after exactly
+/// that list.
 ///
-/// They are a graph, which answers, and a journal, which keeps the entries. A contract sees the numbers of threads and of
-/// locks, the entries, oldest first, and `spare`, for how many further entries there is room. No call but `new`,
-/// `reserve` and `entries` takes memory.
+/// They are a graph, which answers, and a journal, which keeps the entries. A contract sees the
+/// numbers of threads and of locks, the entries, oldest first, and `spare`, for how many further
+/// entries there is room. No call but `new`, `reserve` and `entries` takes memory.
 #[derive(Drop)]
 pub struct Tables {
     graph: Graph,
@@ -64,7 +65,8 @@ impl Tables {
         Ok(Tables { graph, journal })
     }
 
-    /// Makes room for at least `entries` further entries. The length and `entries` together are below 2^32.
+    /// Makes room for at least `entries` further entries. The length and `entries` together are
+    /// below 2^32.
     ///
     /// Where memory runs out, all is as before.
     pub fn reserve(&mut self, entries: u32) -> Result<(), OutOfMemory>
@@ -89,7 +91,8 @@ impl Tables {
         self.enter(&e);
     }
 
-    /// Appends an entry that fits and that stays the caller's, in the room that there is. It costs the same at any length.
+    /// Appends an entry that fits and that stays the caller's, in the room that there is. It costs
+    /// the same at any length.
     pub fn enter(&mut self, e: &Entry)
         requires room { 1 ≤ self.old.spare }
         requires in_range { IsInRange self.old.threads self.old.locks e.now }
@@ -118,7 +121,8 @@ impl Tables {
         self.journal.look(place)
     }
 
-    /// The number of the signature that the entry at a place names, where it is a Yield. The place is below the length.
+    /// The number of the signature that the entry at a place names, where it is a Yield. The place
+    /// is below the length.
     ///
     /// It makes no entry, and takes no memory.
     pub fn yielded(&self, place: u32) -> Option<u32>
@@ -136,7 +140,8 @@ impl Tables {
         self.journal.is_entry(place, e)
     }
 
-    /// The entries in full, oldest first, in a list of their own, which takes more than 400 bytes for each.
+    /// The entries in full, oldest first, in a list of their own, which takes more than 400 bytes
+    /// for each.
     pub fn entries(&self, alloc: Global) -> Result<Vec<Entry>, OutOfMemory>
         ensures { IfOk result (λ all. all.items ≡ self.now.entries) }
     {
@@ -188,7 +193,8 @@ impl Tables {
         self.graph.mode(t)
     }
 
-    /// The allow edge of a thread, which has at most one; none exactly where it has none on any lock.
+    /// The allow edge of a thread, which has at most one; none exactly where it has none on any
+    /// lock.
     pub fn allow_of(&self, t: Tid) -> Option<Edge>
         requires { t.0 < self.now.threads }
         ensures some { IfSome result
@@ -223,7 +229,8 @@ impl Tables {
         self.graph.owner(l)
     }
 
-    /// The birth of the hold edge of a thread on a lock; none exactly where the thread doesn't hold it. It copies no edge.
+    /// The birth of the hold edge of a thread on a lock; none exactly where the thread doesn't hold
+    /// it. It copies no edge.
     pub fn hold_birth(&self, t: Tid, l: Lid) -> Option<u32>
         requires { l.0 < self.now.locks }
         ensures { result
@@ -254,8 +261,8 @@ impl Tables {
         self.graph.hold_of(t, l)
     }
 
-    /// Whether an entry may come next: its thread and its lock, where it has them, are in range, and the mode of
-    /// its thread and the holder of its lock allow it.
+    /// Whether an entry may come next: its thread and its lock, where it has them, are in range,
+    /// and the mode of its thread and the holder of its lock allow it.
     pub fn fits(&self, e: &Entry) -> bool
         ensures { IsTrue result
             ↔ (IsInRange self.now.threads self.now.locks e.now
@@ -291,7 +298,8 @@ impl Tables {
 
     /// The first cause, in order of position, of a thread that yields and whose causes all stand.
     ///
-    /// None exactly where the thread doesn't yield, or is woken: a cause of its Yield has ended, or it had none.
+    /// None exactly where the thread doesn't yield, or is woken: a cause of its Yield has ended, or
+    /// it had none.
     pub fn standing(&self, t: Tid) -> Option<u32>
         requires { t.0 < self.now.threads }
         ensures { result ≡ standing self.now.threads self.now.locks t.0 (past self.now.entries) }
@@ -299,11 +307,13 @@ impl Tables {
         self.graph.standing(t)
     }
 
-    /// The first position that keeps a list of places from being the births of a cycle, position by position.
+    /// The first position that keeps a list of places from being the births of a cycle, position by
+    /// position.
     ///
-    /// Position `i` passes where its place is the birth of a hold edge, whose owner is allowed on the lock of the
-    /// hold edge with the next birth, and, for `i` above 0, has a greater number than the owner at position 0.
-    /// Behind the last position comes the first. A list shorter than 2 fails at 0.
+    /// Position `i` passes where its place is the birth of a hold edge, whose owner is allowed on
+    /// the lock of the hold edge with the next birth, and, for `i` above 0, has a greater number
+    /// than the owner at position 0. Behind the last position comes the first. A list shorter than
+    /// 2 fails at 0.
     pub fn is_cycle(&self, births: &Births) -> Result<(), u32>
         ensures { MatchResult result
             (λ done. cycle_fault self.now.threads self.now.locks (past self.now.entries) births.now
@@ -314,7 +324,8 @@ impl Tables {
         self.graph.is_cycle(births)
     }
 
-    /// The hold edge on the lock on which a thread is allowed; none exactly where it is allowed on none, or nobody holds that.
+    /// The hold edge on the lock on which a thread is allowed; none exactly where it is allowed on
+    /// none, or nobody holds that.
     pub fn waits_for(&self, t: Tid) -> Option<Edge>
         requires { t.0 < self.now.threads }
         ensures value { result ≡ waits self.now.threads (past self.now.entries) t.0 }
@@ -334,8 +345,8 @@ impl Tables {
 
     /// The least member of a set that keeps it from being stuck, or whose number is no thread.
     ///
-    /// A member may be one where it has ended, or is allowed on a lock that a member holds, or yields with
-    /// causes that all stand and whose owners are all members.
+    /// A member may be one where it has ended, or is allowed on a lock that a member holds, or
+    /// yields with causes that all stand and whose owners are all members.
     pub fn is_stuck(&self, set: u32) -> Result<(), Tid>
         ensures reading { MatchResult result
             (λ done. IsStuck self.now.threads self.now.locks (past self.now.entries) set)
@@ -347,7 +358,8 @@ impl Tables {
         self.graph.is_stuck(set)
     }
 
-    /// The member of a set that yields and holds the most locks, and of these the one with the least number.
+    /// The member of a set that yields and holds the most locks, and of these the one with the
+    /// least number.
     ///
     /// None exactly where no member yields.
     pub fn choice(&self, set: u32) -> Option<Tid>
@@ -356,10 +368,12 @@ impl Tables {
     {
         self.graph.choice(set)
     }
-    /// The births of the starvation of a stuck set with a choice: the one that following steps from the choice runs into.
+    /// The births of the starvation of a stuck set with a choice: the one that following steps from
+    /// the choice runs into.
     ///
-    /// A thread steps to the hold edge on the lock on which it is allowed, or, where it yields and all its causes stand, to the edge of
-    /// the first of them. None exactly where the set has no starvation, and where it has no choice.
+    /// A thread steps to the hold edge on the lock on which it is allowed, or, where it yields and
+    /// all its causes stand, to the edge of the first of them. None exactly where the set has no
+    /// starvation, and where it has no choice.
     pub fn starved(&self, set: u32) -> Option<Births>
         ensures value { result ≡ starved self.now.threads self.now.locks (past self.now.entries)
             set }
@@ -370,11 +384,14 @@ impl Tables {
         self.graph.starved(set)
     }
 
-    /// The first position that keeps a list of places from being the births of a starvation, position by position.
+    /// The first position that keeps a list of places from being the births of a starvation,
+    /// position by position.
     ///
-    /// Position `i` passes where its place is the birth of an edge, whose owner steps to the edge with the next birth and, for `i` above 0, has
-    /// a greater number than the owner at position 0, and whose lock differs from those of the positions before it. Behind the last
-    /// position comes the first. A list shorter than 2 fails at 0, and so does one where every position passes and no owner yields.
+    /// Position `i` passes where its place is the birth of an edge, whose owner steps to the edge
+    /// with the next birth and, for `i` above 0, has a greater number than the owner at position 0,
+    /// and whose lock differs from those of the positions before it. Behind the last position comes
+    /// the first. A list shorter than 2 fails at 0, and so does one where every position passes and
+    /// no owner yields.
     pub fn is_starved(&self, births: &Births) -> Result<(), u32>
         ensures { MatchResult result
             (λ done. starvation_fault self.now.threads self.now.locks (past self.now.entries)

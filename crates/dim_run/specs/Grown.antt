@@ -23,7 +23,8 @@ abbrev pub counted_from : ℕ → List Entry → List Sig → List Sig
 counted_from k entries [] = []
 counted_from k entries (s ∷ ss) = counted (yields_of k entries) s ∷ counted_from (k + 1) entries ss
 
--- the signatures known after some entries, in the states and with the yields that were read, or on and 0 where they were learnt, and the Yields of the entries counted
+-- the signatures known after some entries, in the states and with the yields that were read, or on
+-- and 0 where they were learnt, and the Yields of the entries counted
 abbrev pub grown : List Sig → ℕ → List Entry → List Sig
 grown loaded depth entries = counted_from 0 entries (known_sigs loaded depth (past entries))
 
@@ -37,7 +38,8 @@ pub record GrownLaw : Type 0 where
 
 -- each Yield of these entries names one of so many signatures
 abbrev pub AreNumbered : ℕ → List Entry → Type 0
-AreNumbered n entries = (place i : ℕ) → slice_get (map yielded entries) place ≡ Some (Some i) → i < n
+AreNumbered n entries = (place i : ℕ) → slice_get (map yielded entries) place ≡ Some (Some i)
+    → i < n
 
 -- the signatures with one yield more of the one with this number, if there is one
 abbrev pub with_yield : Option ℕ → List Sig → List Sig

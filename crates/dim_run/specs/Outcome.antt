@@ -16,8 +16,11 @@ HasCycle n h = (c : List Edge) × IsCycle (waits n h) c
 abbrev pub HaveEnded : ℕ → List Entry → Type 0
 HaveEnded n h = (t : ℕ) → t < n → HasEnded t h
 
--- A run of n threads is deadlocked exactly where a cycle stands at its end. Where none stands, it is finished where each thread has ended, and else stalled.
+-- A run of n threads is deadlocked exactly where a cycle stands at its end. Where none stands, it
+-- is finished where each thread has ended, and else stalled.
 pub record OutcomeLaw : Type 0 where
   pub deadlocked : (n : ℕ) (h : List Entry) → (outcome_by n h ≡ Deadlocked) ↔ HasCycle n h
-  pub finished : (n : ℕ) (h : List Entry) → (outcome_by n h ≡ Finished) ↔ ((HasCycle n h → ⊥) × HaveEnded n h)
-  pub stalled : (n : ℕ) (h : List Entry) → (outcome_by n h ≡ Stalled) ↔ ((HasCycle n h → ⊥) × (HaveEnded n h → ⊥))
+  pub finished : (n : ℕ) (h : List Entry)
+      → (outcome_by n h ≡ Finished) ↔ ((HasCycle n h → ⊥) × HaveEnded n h)
+  pub stalled : (n : ℕ) (h : List Entry)
+      → (outcome_by n h ≡ Stalled) ↔ ((HasCycle n h → ⊥) × (HaveEnded n h → ⊥))

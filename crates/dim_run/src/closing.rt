@@ -12,8 +12,8 @@ use dim_gate::GateState;
 use dim_rag::Tables;
 use dim_signature::Catalogue;
 
-/// What stays of a gate that is done with: the tables, the known signatures with the yields of its entries counted, and how many
-/// entries of each kind it has. The history is legal.
+/// What stays of a gate that is done with: the tables, the known signatures with the yields of its
+/// entries counted, and how many entries of each kind it has. The history is legal.
 pub(crate) fn finish(gate: GateState) -> (Tables, Catalogue, Totals)
     requires feed { IsSome gate.feed }
     ensures tables { result.0 ≡ replay gate }
@@ -28,7 +28,8 @@ pub(crate) fn finish(gate: GateState) -> (Tables, Catalogue, Totals)
     (tables, catalogue, totals)
 }
 
-/// Counts each Yield of some tables for the signature that it names, in one walk over their places. It takes no memory.
+/// Counts each Yield of some tables for the signature that it names, in one walk over their places.
+/// It takes no memory.
 fn count_yields(tables: &Tables, catalogue: &mut Catalogue)
     requires numbered { AreNumbered (length catalogue.old.sigs) tables.now.entries }
     ensures { catalogue.new.sigs ≡ counted_from 0 tables.now.entries catalogue.old.sigs }

@@ -37,15 +37,19 @@ FoundLaw = (sigs : List Sig) (stacks : List (List Frame)) (n : ℕ) → number_o
 
 -- where there is no number, no signature has them
 abbrev pub MissingLaw : Type 0
-MissingLaw = (sigs : List Sig) (stacks : List (List Frame)) → number_of sigs stacks ≡ None → All (λ s. s.stacks ≢ stacks) sigs
+MissingLaw = (sigs : List Sig) (stacks : List (List Frame)) → number_of sigs stacks ≡ None
+    → All (λ s. s.stacks ≢ stacks) sigs
 
 -- the stacks of each signature of a catalogue have its own number
 abbrev pub OwnLaw : Type 0
-OwnLaw = (sigs : List Sig) → IsCatalogue sigs → (n : ℕ) (s : Sig) → slice_get sigs n ≡ Some s → number_of sigs s.stacks ≡ Some n
+OwnLaw = (sigs : List Sig) → IsCatalogue sigs → (n : ℕ) (s : Sig) → slice_get sigs n ≡ Some s
+    → number_of sigs s.stacks ≡ Some n
 
 -- no state and no number of yields says which stacks have which number
 abbrev pub SwitchedLaw : Type 0
-SwitchedLaw = (sigs : List Sig) (i : ℕ) (on : Bool) (stacks : List (List Frame)) → number_of (changed_at i (switched on) sigs) stacks ≡ number_of sigs stacks
+SwitchedLaw = (sigs : List Sig) (i : ℕ) (on : Bool) (stacks : List (List Frame))
+    → number_of (changed_at i (switched on) sigs) stacks ≡ number_of sigs stacks
 
 abbrev pub CountedLaw : Type 0
-CountedLaw = (sigs : List Sig) (i more : ℕ) (stacks : List (List Frame)) → number_of (changed_at i (counted more) sigs) stacks ≡ number_of sigs stacks
+CountedLaw = (sigs : List Sig) (i more : ℕ) (stacks : List (List Frame))
+    → number_of (changed_at i (counted more) sigs) stacks ≡ number_of sigs stacks

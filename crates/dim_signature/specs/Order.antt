@@ -29,14 +29,16 @@ stacks_at sigs order place = stacks_of sigs (slice_index order place)
 pub record IsOrder (sigs : List Sig) (order : List ℕ) : Type 0 where
   pub size : length order ≡ length sigs
   pub within : (k : ℕ) → k < length order → slice_index order k < length sigs
-  pub ascends : (j k : ℕ) → j < k → k < length order → stacks_cmp (stacks_at sigs order j) (stacks_at sigs order k) ≡ Less
+  pub ascends : (j k : ℕ) → j < k → k < length order
+      → stacks_cmp (stacks_at sigs order j) (stacks_at sigs order k) ≡ Less
   pub all : (i : ℕ) → i < length sigs → (k : ℕ) × (k < length order) × (slice_index order k ≡ i)
 
 -- these stacks belong at a place of the order, where no signature has them
 pub record BelongsAt (sigs : List Sig) (order : List ℕ) (stacks : List (List Frame)) (place : ℕ) : Type 0 where
   pub within : place ≤ length order
   pub below : (k : ℕ) → k < place → stacks_cmp (stacks_at sigs order k) stacks ≡ Less
-  pub above : (k : ℕ) → place ≤ k → k < length order → stacks_cmp (stacks_at sigs order k) stacks ≡ Greater
+  pub above : (k : ℕ) → place ≤ k → k < length order
+      → stacks_cmp (stacks_at sigs order k) stacks ≡ Greater
 
 -- empty, with room for the stacks of one signature
 pub record IsRoom (room : Vec (List Frame) Global) : Type 0 where

@@ -35,4 +35,5 @@ SameStacksLaw = (stacks : List (List Frame)) → IsPermutation stacks (sorted st
 
 -- and it is the only list of which both hold
 abbrev pub OnlySortedLaw : Type 0
-OnlySortedLaw = (stacks others : List (List Frame)) → IsPermutation stacks others → AreSorted others → others ≡ sorted stacks
+OnlySortedLaw = (stacks others : List (List Frame)) → IsPermutation stacks others → AreSorted others
+    → others ≡ sorted stacks

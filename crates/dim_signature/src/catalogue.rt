@@ -40,7 +40,8 @@ impl From<AllocError> for Add {
     }
 }
 
-/// At most 4,096 signatures by their numbers, of which no two have the same stacks, and room for some to be learnt.
+/// At most 4,096 signatures by their numbers, of which no two have the same stacks, and room for
+/// some to be learnt.
 #[derive(Debug, Drop)]
 pub struct Catalogue {
     list: Vec<Signature>,
@@ -121,7 +122,8 @@ impl Catalogue {
         }
     }
 
-    /// Makes room for this many signatures to be learnt. Where memory runs out, there may be more room than before.
+    /// Makes room for this many signatures to be learnt. Where memory runs out, there may be more
+    /// room than before.
     pub fn reserve(&mut self, places: u32) -> Result<(), OutOfMemory>
         ensures sigs { self.new.sigs ≡ self.old.sigs }
         ensures ok { OnOk result (self.new.spare ≡ max self.old.spare places) }
@@ -133,7 +135,8 @@ impl Catalogue {
         add_rooms(alloc, &mut self.rooms, places as usize)
     }
 
-    /// Appends the signature of these stacks, on and with 0 yields, in the room that is there, and answers its number. It takes no memory.
+    /// Appends the signature of these stacks, on and with 0 yields, in the room that is there, and
+    /// answers its number. It takes no memory.
     pub fn learn(&mut self, depth: u8, sorted: &[Stack]) -> u32
         requires room { 1 ≤ self.old.spare }
         requires few { length self.old.sigs < 4096 }
@@ -152,7 +155,8 @@ impl Catalogue {
         append(&mut self.list, &mut self.order, place, sig)
     }
 
-    /// Puts the signature with a number into this state, and changes nothing else. It needs `i` below the length, and takes no memory.
+    /// Puts the signature with a number into this state, and changes nothing else. It needs `i`
+    /// below the length, and takes no memory.
     pub fn switch(&mut self, i: u32, on: bool)
         requires { i < length self.old.sigs }
         ensures { self.new ≡ record self.old { sigs = changed_at i (switched on) self.old.sigs } }
@@ -160,8 +164,8 @@ impl Catalogue {
         self.list[i as usize].switch(on);
     }
 
-    /// Counts so many yields more for the signature with a number, up to 4,294,967,295, and changes nothing else.
-    /// It needs `i` below the length, and takes no memory.
+    /// Counts so many yields more for the signature with a number, up to 4,294,967,295, and changes
+    /// nothing else. It needs `i` below the length, and takes no memory.
     pub fn count(&mut self, i: u32, more: u32)
         requires { i < length self.old.sigs }
         ensures { self.new ≡ record self.old { sigs = changed_at i (counted more) self.old.sigs } }
@@ -169,7 +173,8 @@ impl Catalogue {
         self.list[i as usize].count(more);
     }
 
-    /// A catalogue with the same signatures in the same order, equal in all that they hold, and no room.
+    /// A catalogue with the same signatures in the same order, equal in all that they hold, and no
+    /// room.
     pub fn copy(&self, alloc: Global) -> Result<Catalogue, OutOfMemory>
         ensures { IfOk result (λ c. c ≡ record { sigs = self.now.sigs; spare = 0 }) }
     {

@@ -34,7 +34,8 @@ impl From<AllocError> for SigFault {
     }
 }
 
-/// A depth from 1 to 32, and 2 to 32 stacks in order; whether it is switched on, and how many yields were counted, up to 4,294,967,295.
+/// A depth from 1 to 32, and 2 to 32 stacks in order; whether it is switched on, and how many
+/// yields were counted, up to 4,294,967,295.
 #[derive(Debug, Drop)]
 pub struct Signature {
     depth: u8,
@@ -55,7 +56,8 @@ impl Model for Signature {
 }
 
 impl Signature {
-    /// The signature of these stacks, which it puts in order, with this depth. It is switched on and has 0 yields.
+    /// The signature of these stacks, which it puts in order, with this depth. It is switched on
+    /// and has 0 yields.
     pub fn new(alloc: Global, depth: u8, stacks: &[Stack]) -> Result<Signature, SigFault>
         requires { length stacks.now < 2 ^ 32 }
         ensures ok { IfOk result (λ s. s ≡ fresh depth (sorted stacks.now)) }

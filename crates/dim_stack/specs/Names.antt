@@ -36,7 +36,8 @@ table_of (name ∷ names) = with_name name (table_of names)
 
 -- a list has those names that stand in one of two others
 abbrev pub HasNamesOf : List (List ℕ) → List (List ℕ) → List (List ℕ) → Type 0
-HasNamesOf xs ys both = (name : List ℕ) → list_any (bytes_eq name) both ≡ (list_any (bytes_eq name) xs || list_any (bytes_eq name) ys)
+HasNamesOf xs ys both = (name : List ℕ)
+    → list_any (bytes_eq name) both ≡ (list_any (bytes_eq name) xs || list_any (bytes_eq name) ys)
 
 -- two lists have the same names
 abbrev pub HasSameNames : List (List ℕ) → List (List ℕ) → Type 0
@@ -67,7 +68,8 @@ SameNamesLaw = (names : List (List ℕ)) → HasSameNames (table_of names) names
 
 -- and it is the only list of which both hold
 abbrev pub OnlyTableLaw : Type 0
-OnlyTableLaw = (names table : List (List ℕ)) → AreAscending table → HasSameNames table names → table ≡ table_of names
+OnlyTableLaw = (names table : List (List ℕ)) → AreAscending table → HasSameNames table names
+    → table ≡ table_of names
 
 -- the number of a name, if it stands in the table
 abbrev pub number_of : List (List ℕ) → List ℕ → Option ℕ
@@ -75,11 +77,13 @@ number_of names name = position (bytes_eq name) names
 
 -- the name with that number is the one that was asked for
 abbrev pub FoundLaw : Type 0
-FoundLaw = (names : List (List ℕ)) (name : List ℕ) (n : ℕ) → number_of names name ≡ Some n → slice_get names n ≡ Some name
+FoundLaw = (names : List (List ℕ)) (name : List ℕ) (n : ℕ) → number_of names name ≡ Some n
+    → slice_get names n ≡ Some name
 
 -- where there is no number, the name isn't there
 abbrev pub MissingLaw : Type 0
-MissingLaw = (names : List (List ℕ)) (name : List ℕ) → number_of names name ≡ None → All (λ x. x ≢ name) names
+MissingLaw = (names : List (List ℕ)) (name : List ℕ) → number_of names name ≡ None
+    → All (λ x. x ≢ name) names
 
 -- each name of a table has its own number
 abbrev pub OwnLaw : Type 0
@@ -101,4 +105,5 @@ IsNamedBy names stack = All (λ f. f.func < length names) stack
 -- stacks compare by the numbers of their functions as by the names, in any table
 abbrev pub OrderLaw : Type 0
 OrderLaw = (names : List (List ℕ)) → AreAscending names
-    → (a b : List Frame) → IsNamedBy names a → IsNamedBy names b → slice_cmp frame_cmp a b ≡ slice_cmp (named_cmp names) a b
+    → (a b : List Frame) → IsNamedBy names a → IsNamedBy names b
+    → slice_cmp frame_cmp a b ≡ slice_cmp (named_cmp names) a b

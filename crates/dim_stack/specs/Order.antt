@@ -48,7 +48,8 @@ frame_eq-cmp : (a b : Frame) → frame_eq a b ≡ is_eq (frame_cmp a b)
 frame_eq-cmp a b = ap (λ x. x && nat_eq a.at b.at) (eqb-cmp a.func b.func) ∙ ap (λ x. is_eq (nat_cmp a.func b.func) && x) (eqb-cmp a.at b.at) ∙ sym (is_eq-then _ _)
 
 -- stacks that are equal are those between which the order does not decide
-pub stack_eq-cmp : (xs ys : List Frame) → pointwise frame_eq xs ys ≡ is_eq (slice_cmp frame_cmp xs ys)
+pub stack_eq-cmp : (xs ys : List Frame)
+    → pointwise frame_eq xs ys ≡ is_eq (slice_cmp frame_cmp xs ys)
 stack_eq-cmp [] [] = refl
 stack_eq-cmp [] (y ∷ ys) = refl
 stack_eq-cmp (x ∷ xs) [] = refl

@@ -31,7 +31,8 @@ pub struct Frame {
 /// A call stack of 1 to 32 frames, innermost first.
 ///
 /// A contract sees it as the list of its frames. It has a fixed size and is copied like a number.
-/// Its order, that of `compare`, is the order of the lists: frame by frame, and a proper prefix comes first.
+/// Its order, that of `compare`, is the order of the lists: frame by frame, and a proper prefix
+/// comes first.
 #[derive(Clone, Copy, Debug)]
 pub struct Stack {
     len: usize,
@@ -69,7 +70,8 @@ impl Stack {
         Stack { len, frames: all }
     }
 
-    /// Becomes another stack. Only the frames that one of the two has are written, since most stacks are short.
+    /// Becomes another stack. Only the frames that one of the two has are written, since most
+    /// stacks are short.
     pub fn set(&mut self, other: &Stack)
         ensures { self.new ≡ other.now }
     {

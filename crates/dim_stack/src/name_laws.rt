@@ -8,7 +8,8 @@ pub fn table_law()
     ensures only { OnlyTableLaw }
 {}
 
-/// The table of names has each of them, and the table of two lists has what either has. So a table that two are merged into has the names of both.
+/// The table of names has each of them, and the table of two lists has what either has. So a table
+/// that two are merged into has the names of both.
 pub fn merged_law()
     ensures own { HasOwnLaw }
     ensures first { HasFirstLaw }

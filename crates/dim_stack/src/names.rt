@@ -8,7 +8,8 @@ use indexmap::IndexSet;
 use std::alloc::Global;
 use std::marker::Model;
 
-/// A sorted table of names without doubles. The number of a name is its place, so numbers are in the order of names.
+/// A sorted table of names without doubles. The number of a name is its place, so numbers are in
+/// the order of names.
 ///
 /// Names are compared byte by byte, and a proper prefix comes first.
 #[derive(Debug, Drop)]

@@ -49,7 +49,8 @@ impl PartialOrd for Stack {
     }
 }
 
-/// The order of two stacks: frame by frame, by function and then by offset; a proper prefix comes first.
+/// The order of two stacks: frame by frame, by function and then by offset; a proper prefix comes
+/// first.
 pub fn compare(a: &Stack, b: &Stack) -> Ordering
     ensures value { result ≡ slice_cmp frame_cmp a.now b.now }
     ensures less { (result ≡ Less) ↔ ComesBefore a.now b.now }

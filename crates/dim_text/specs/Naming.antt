@@ -9,7 +9,8 @@ is_name_byte c = is_ascii_alphanumeric c || c == 95
 
 -- 1 to 24 of these, of which the first is no digit
 abbrev pub is_name : List ℕ → Bool
-is_name word = (nat_le 1 (length word) && nat_le (length word) 24) && (not (is_ascii_digit (slice_index word 0)) && list_all is_name_byte word)
+is_name word = (nat_le 1 (length word) && nat_le (length word) 24)
+    && (not (is_ascii_digit (slice_index word 0)) && list_all is_name_byte word)
 
 abbrev pub IsName : List ℕ → Type 0
 IsName word = is_name word ≡ true

@@ -1,4 +1,5 @@
--- How a text is read, by the places of its parts: its lines, and then what stands behind the last line feed.
+-- How a text is read, by the places of its parts: its lines, and then what stands behind the last
+-- line feed.
 use Rattle.std.specs.Prelude.{◌≡◌, ℕ, ◌+◌, ◌<◌, List, [], length, get_or, Result, Ok, Err}
 use Rattle.dim_text.specs.Cuts.{lines_of}
 
@@ -18,9 +19,11 @@ part_at parts i = get_or parts i []
 -- the first of these states is this one, and each part leads from the state before it to the next
 pub record Leads {S A K : Type 0} (r : Reading S A K) (first : S) (states : List S) (parts : List (List ℕ)) : Type 0 where
   pub begins : state_at r states 0 ≡ first
-  pub steps : (i : ℕ) → i + 1 < length states → r.step (state_at r states i) (part_at parts i) ≡ Ok (state_at r states (i + 1))
+  pub steps : (i : ℕ) → i + 1 < length states
+      → r.step (state_at r states i) (part_at parts i) ≡ Ok (state_at r states (i + 1))
 
--- the parts before a place are taken, each in its state, and the part there has a fault of this kind
+-- the parts before a place are taken, each in its state, and the part there has a fault of this
+-- kind
 pub record FailsAt {S A K : Type 0} (r : Reading S A K) (first : S) (states : List S) (parts : List (List ℕ)) (i : ℕ) (kind : K) : Type 0 where
   pub within : i < length parts
   pub size : length states ≡ i + 1

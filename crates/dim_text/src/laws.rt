@@ -6,8 +6,8 @@ ghost use Rattle.std.specs.List.{AllByRecursion};
 ghost use Rattle.dim_text.specs.Cuts.{lines_of, words_of, sides_of, line_of, ended, frame_word, HasNo};
 ghost use Rattle.dim_text.specs.Naming.{IsName, is_name_byte};
 
-/// A text that begins with a line has it as its first line. The words of a line are those it was made of, and make it.
-/// The sides of a word are those it was made of, and make it.
+/// A text that begins with a line has it as its first line. The words of a line are those it was
+/// made of, and make it. The sides of a word are those it was made of, and make it.
 pub fn cutting_laws()
     ensures line { (line rest : List ℕ) → HasNo 10 line
         → lines_of (ended line ++ rest) ≡ line ∷ lines_of rest }
@@ -21,7 +21,8 @@ pub fn cutting_laws()
         → word ≡ frame_word name offset }
 {}
 
-/// Names and numbers have no byte but letters, digits, `_`, and a `-` before a number below 0. So they have no space, line feed or colon.
+/// Names and numbers have no byte but letters, digits, `_`, and a `-` before a number below 0. So
+/// they have no space, line feed or colon.
 pub fn byte_laws()
     ensures names { (c : ℕ) (word : List ℕ) → is_name_byte c ≡ false → IsName word → HasNo c word }
     ensures numbers { (c n : ℕ) → ¬ (IsInRange 48 57 c) → n < 2 ^ 64 → HasNo c (decimal n) }

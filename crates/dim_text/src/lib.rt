@@ -1,4 +1,5 @@
-//! What the formats share: the parts of a text, numbers, names, the words for a state and the sides of a frame.
+//! What the formats share: the parts of a text, numbers, names, the words for a state and the sides
+//! of a frame.
 #![tactic(auto)]
 
 mod laws;

@@ -11,7 +11,8 @@ fn are_digits(word: &[u8]) -> bool
     word.iter().all(|byte| byte.is_ascii_digit())
 }
 
-/// Whether a word is a number: `0`, or decimal digits of which the first isn't 0. It may have any length.
+/// Whether a word is a number: `0`, or decimal digits of which the first isn't 0. It may have any
+/// length.
 pub fn is_number(word: &[u8]) -> bool
     ensures { result ≡ is_number word.now }
 {

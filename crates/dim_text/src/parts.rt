@@ -25,7 +25,8 @@ fn cut(bytes: &[u8], separator: u8) -> Option<(&[u8], &[u8])>
     }
 }
 
-/// The parts that are left. Between two separators, or a separator and an end, stands one part, which may be empty.
+/// The parts that are left. Between two separators, or a separator and an end, stands one part,
+/// which may be empty.
 #[derive(Drop)]
 pub struct Parts<'a> {
     rest: Option<&'a [u8]>,
@@ -83,7 +84,8 @@ impl<'a> Parts<'a> {
         }
     }
 
-    /// The next part that has a separator behind it. `None` leaves the one part that is left, if there is one.
+    /// The next part that has a separator behind it. `None` leaves the one part that is left, if
+    /// there is one.
     #[tactic(auto, using(crate::proofs::Splitting::some_part))]
     pub fn next_ended(&mut self) -> Option<&'a [u8]>
         ensures { MatchOption result ((length self.old ≤ 1) × (self.new ≡ self.old))

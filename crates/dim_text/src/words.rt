@@ -30,7 +30,8 @@ pub fn one_word<'a, K: Copy>(words: &mut Parts<'a>, kind: K) -> Result<&'a [u8],
     }
 }
 
-/// The two words that are left. Where fewer or more are left, or one is empty, it fails with this kind.
+/// The two words that are left. Where fewer or more are left, or one is empty, it fails with this
+/// kind.
 pub fn two_words<'a, K: Copy>(words: &mut Parts<'a>, kind: K) -> Result<(&'a [u8], &'a [u8]), K>
     ensures { Gives Some (λ pair. (pair.0.now, pair.1.now)) result (two_words words.old kind) }
 {

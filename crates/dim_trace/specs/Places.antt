@@ -14,8 +14,10 @@ reading p names = record { step = step p names; at_end = at_end; start = start }
 
 -- the fault that is read is the first of the text
 abbrev pub FirstLaw : Type 0
-FirstLaw = (p : Code) (names : List (List ℕ)) (bytes : List ℕ) (f : TraceFault) → trace_of p names bytes ≡ Err f → IsFirstFault (reading p names) bytes f.line f.kind
+FirstLaw = (p : Code) (names : List (List ℕ)) (bytes : List ℕ) (f : TraceFault)
+    → trace_of p names bytes ≡ Err f → IsFirstFault (reading p names) bytes f.line f.kind
 
 -- and where a text has a first fault, it is read
 abbrev pub OnlyLaw : Type 0
-OnlyLaw = (p : Code) (names : List (List ℕ)) (bytes : List ℕ) (n : ℕ) (kind : TraceKind) → IsFirstFault (reading p names) bytes n kind → trace_of p names bytes ≡ Err (fault n kind)
+OnlyLaw = (p : Code) (names : List (List ℕ)) (bytes : List ℕ) (n : ℕ) (kind : TraceKind)
+    → IsFirstFault (reading p names) bytes n kind → trace_of p names bytes ≡ Err (fault n kind)

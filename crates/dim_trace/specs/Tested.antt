@@ -60,9 +60,11 @@ is_made (Some x) e = same x e
 
 -- whether e is legal after h
 abbrev pub is_legal : Constants → List Entry → Entry → Bool
-is_legal c h e = is_in_range c.threads c.locks e && is_made (entry_of c (legal.caller_of c.threads e) (legal.command_of e) h) e
+is_legal c h e = is_in_range c.threads c.locks e
+    && is_made (entry_of c (legal.caller_of c.threads e) (legal.command_of e) h) e
 
--- whether the next thing is to take l that isn't held, to take it once more, to free it, or to try it
+-- whether the next thing is to take l that isn't held, to take it once more, to free it, or to try
+-- it
 abbrev pub wants : Lid → Next → Bool
 wants l (Wants m after) = m.0 == l.0
 wants l _ = false
@@ -88,21 +90,26 @@ abbrev pub ends : Tid → Why → Next → Bool
 ends t why (Ends w) = same (End t w) (End t why)
 ends t why _ = false
 
--- whether an entry is what a thread does next that has so many units and calls, and that is awake or isn't
+-- whether an entry is what a thread does next that has so many units and calls, and that is awake
+-- or isn't
 abbrev pub fits_next : ℕ → List Frame → Bool → Entry → Next → Bool
 fits_next units stack awake (Go t l s) n = nat_le 2 units && (same_stack s stack && wants l n)
-fits_next units stack awake (Yield t l s sig births) n = nat_le 2 units && (same_stack s stack && wants l n)
+fits_next units stack awake (Yield t l s sig births) n = nat_le 2 units
+    && (same_stack s stack && wants l n)
 fits_next units stack awake (Got t l) n = nat_le 1 units && wants l n
 fits_next units stack awake (Free t l) n = nat_le 1 units && frees l n
-fits_next units stack awake (Took t l s) n = nat_le 1 units && (same_stack s stack && (tries l n || retakes l n))
+fits_next units stack awake (Took t l s) n = nat_le 1 units
+    && (same_stack s stack && (tries l n || retakes l n))
 fits_next units stack awake (Miss t l s why) n = nat_le 1 units && (same_stack s stack && tries l n)
-fits_next units stack awake (End t Spent) n = (units == 0) || ((units == 1) && (awake && wants_some n))
+fits_next units stack awake (End t Spent) n = (units == 0)
+    || ((units == 1) && (awake && wants_some n))
 fits_next units stack awake (End t why) n = nat_le 1 units && ends t why n
 fits_next units stack awake (Break set t) n = false
 fits_next units stack awake (Learn births) n = false
 
 abbrev pub fits : Code → Bool → Configuration → Entry → Bool
-fits p awake c e = not (is_ended c.state) && (is_by c.thread (thread_of e) && fits_next c.units (stack_of p c.context.frames) awake e (next_of p c))
+fits p awake c e = not (is_ended c.state)
+    && (is_by c.thread (thread_of e) && fits_next c.units (stack_of p c.context.frames) awake e (next_of p c))
 
 -- whether a thread in this mode, with this first cause that stands, runs or is woken
 abbrev pub is_awake : Mode → Option ℕ → Bool
@@ -129,7 +136,8 @@ all_rest n h zero = true
 all_rest n h (suc k) = rests n h (mode k h) && all_rest n h k
 
 abbrev pub is_settled : Constants → List Entry → Bool
-is_settled c h = all_rest c.threads h c.threads && (list_all (is_known c h) (cycles_of c.threads h) && are_followed c.threads c.locks None h)
+is_settled c h = all_rest c.threads h c.threads
+    && (list_all (is_known c h) (cycles_of c.threads h) && are_followed c.threads c.locks None h)
 
 -- the verdict by two tests of an entry at a place, and by what is said behind it
 abbrev pub by_tests : Bool → Bool → ℕ → Verdict → Verdict
@@ -146,4 +154,5 @@ verdict_of c p fuel entries = verdict_after c p fuel [] entries
 
 -- it is a verdict
 abbrev pub FoundLaw : Type 0
-FoundLaw = (c : Constants) (p : Code) (fuel : ℕ) (entries : List Entry) → IsVerdict c p fuel entries (verdict_of c p fuel entries)
+FoundLaw = (c : Constants) (p : Code) (fuel : ℕ) (entries : List Entry)
+    → IsVerdict c p fuel entries (verdict_of c p fuel entries)

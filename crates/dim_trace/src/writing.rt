@@ -66,8 +66,9 @@ fn text_of_trace(
     Ok(text)
 }
 
-/// The text of a trace of the program, where functions have their names in this table. A number that has no name is written with an empty one.
-/// Each Break's set that was written is a number of 32 bits, as `entries_law` and `length_law` ask.
+/// The text of a trace of the program, where functions have their names in this table. A number
+/// that has no name is written with an empty one. Each Break's set that was written is a number of
+/// 32 bits, as `entries_law` and `length_law` ask.
 pub fn write_trace(
     alloc: Global,
     program: &Program,
@@ -104,8 +105,9 @@ fn text_of_tables(
     Ok(text)
 }
 
-/// The text of the trace with this fuel and this depth whose entries are those of tables: what `write_trace` answers for them, with no list of them made.
-/// Each Break's set that was written is a number of 32 bits.
+/// The text of the trace with this fuel and this depth whose entries are those of tables: what
+/// `write_trace` answers for them, with no list of them made. Each Break's set that was written is
+/// a number of 32 bits.
 pub fn write_tables(
     alloc: Global,
     program: &Program,

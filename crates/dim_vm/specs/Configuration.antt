@@ -10,7 +10,8 @@ use Rattle.dim_vm.specs.declared.state.State.{State}
 use Rattle.dim_vm.specs.declared.state.State.TheVariants.{Running, Waits, Yields, Ended}
 use Rattle.dim_vm.specs.Table.{begun, times, Next, Plain, Wants, Retakes, Frees, Tries, next}
 
--- the thread, the fuel that it began with, the units that it has left, how it stands, how often it holds each lock, and what its instructions work on
+-- the thread, the fuel that it began with, the units that it has left, how it stands, how often it
+-- holds each lock, and what its instructions work on
 pub record Configuration : Type 0 where
   pub thread : Tid
   pub fuel : ℕ
@@ -95,7 +96,8 @@ moved_by c (Learn births) n = c
 abbrev pub moved : Code → Configuration → Entry → Configuration
 moved p c e = moved_by c e (next_of p c)
 
--- where a thread's own entries, the newest first, lead it that began with so much fuel, with the plain instructions that come next
+-- where a thread's own entries, the newest first, lead it that began with so much fuel, with the
+-- plain instructions that come next
 abbrev pub led : Code → Tid → ℕ → List Entry → Configuration
 led p t fuel [] = rested p (start p t fuel)
 led p t fuel (e ∷ h) = rested p (moved p (led p t fuel h) e)

@@ -16,8 +16,8 @@ use Rattle.dim_rag.specs.History.{past, count, mode}
 use Rattle.dim_rag.specs.Fits.{YieldsOn, IsAllowedOn}
 use Rattle.dim_vm.specs.Own.{IsYieldingOn}
 
--- what a door has seen: its thread, the number of locks, the thread's own entries, oldest first, the last reply, for how many more entries there is room, and
--- at how many replies a slice stops
+-- what a door has seen: its thread, the number of locks, the thread's own entries, oldest first,
+-- the last reply, for how many more entries there is room, and at how many replies a slice stops
 pub record Seen : Type 0 where
   pub thread : Tid
   pub locks : ℕ
@@ -58,8 +58,10 @@ MayAskFor z l s = Runs z ⊎ (WasWoken z × YieldsOn z.thread.0 l s (past z.own)
 
 -- what a command needs. A gate refuses none that has it
 abbrev pub MayAsk : Seen → Command → Type 0
-MayAsk z (cmd.Request l s) = (l.0 < z.locks) × ((Lacks z l × MayAskFor z l s) ⊎ (HoldsFew z l × Runs z))
-MayAsk z (cmd.Acquire l) = (l.0 < z.locks) × (IsAllowedOn z.thread.0 l (past z.own) ⊎ IsYieldingOn z.thread.0 l (past z.own))
+MayAsk z (cmd.Request l s) = (l.0 < z.locks)
+    × ((Lacks z l × MayAskFor z l s) ⊎ (HoldsFew z l × Runs z))
+MayAsk z (cmd.Acquire l) = (l.0 < z.locks)
+    × (IsAllowedOn z.thread.0 l (past z.own) ⊎ IsYieldingOn z.thread.0 l (past z.own))
 MayAsk z (cmd.Release l) = (l.0 < z.locks) × Holds z l × Runs z
 MayAsk z (cmd.Try l s) = (l.0 < z.locks) × (Lacks z l ⊎ HoldsFew z l) × Runs z
 MayAsk z (cmd.End why) = Runs z ⊎ WasWoken z

@@ -29,15 +29,18 @@ IsFreeing l n = (after : Context) × (n ≡ Frees l after)
 abbrev pub IsTrying : Lid → Next → Type 0
 IsTrying l n = (took : Context) × (missed : Context) × (n ≡ Tries l took missed)
 
--- an entry is what a thread does next that has so many units and calls. One that has a unit for no request ends as spent only where it may
+-- an entry is what a thread does next that has so many units and calls. One that has a unit for no
+-- request ends as spent only where it may
 abbrev pub FitsNext : ℕ → List Frame → Type 0 → Entry → Next → Type 0
 FitsNext units stack may_end (Go t l s) n = (2 ≤ units) × (s ≡ stack) × IsWanting l n
 FitsNext units stack may_end (Yield t l s sig births) n = (2 ≤ units) × (s ≡ stack) × IsWanting l n
 FitsNext units stack may_end (Got t l) n = (1 ≤ units) × IsWanting l n
 FitsNext units stack may_end (Free t l) n = (1 ≤ units) × IsFreeing l n
-FitsNext units stack may_end (Took t l s) n = (1 ≤ units) × (s ≡ stack) × (IsTrying l n ⊎ IsRetaking l n)
+FitsNext units stack may_end (Took t l s) n = (1 ≤ units) × (s ≡ stack)
+    × (IsTrying l n ⊎ IsRetaking l n)
 FitsNext units stack may_end (Miss t l s why) n = (1 ≤ units) × (s ≡ stack) × IsTrying l n
-FitsNext units stack may_end (End t Spent) n = (units ≡ 0) ⊎ ((units ≡ 1) × may_end × ((l : Lid) × IsWanting l n))
+FitsNext units stack may_end (End t Spent) n = (units ≡ 0)
+    ⊎ ((units ≡ 1) × may_end × ((l : Lid) × IsWanting l n))
 FitsNext units stack may_end (End t why) n = (1 ≤ units) × (n ≡ Ends why)
 FitsNext units stack may_end (Break set t) n = ⊥
 FitsNext units stack may_end (Learn births) n = ⊥
@@ -63,7 +66,8 @@ abbrev pub OwnWalk : Code → Tid → ℕ → List Entry → Type 0
 OwnWalk p t fuel [] = ⊤
 OwnWalk p t fuel (e ∷ h) = FitsOwn p (led p t fuel h) e × OwnWalk p t fuel h
 
--- a thread's own entries, oldest first, lead to a configuration, once the plain instructions that come next are made
+-- a thread's own entries, oldest first, lead to a configuration, once the plain instructions that
+-- come next are made
 pub record FitsMachine (p : Code) (c : Configuration) (own : List Entry) : Type 0 where
   pub walk : OwnWalk p c.thread c.fuel (past own)
   pub leads : led p c.thread c.fuel (past own) ≡ rested p c

@@ -29,13 +29,15 @@ drops_at (step.Retakes l drops) = drops
 drops_at (step.Frees l drops) = drops
 drops_at _ = false
 
--- the lock of a step has an index, its instruction has a next one, a lock that is taken once more is held fewer than 255 times,
--- and a try has room for its operand
+-- the lock of a step has an index, its instruction has a next one, a lock that is taken once more
+-- is held fewer than 255 times, and a try has room for its operand
 abbrev pub IsSafe : List ℕ → Context → Step → Type 0
 IsSafe holds b (step.Wants l drops) = (l.0 < 256) × ((top_frame b.frames).at < 65536)
-IsSafe holds b (step.Retakes l drops) = (l.0 < 256) × ((top_frame b.frames).at < 65536) × (times holds l.0 < 255)
+IsSafe holds b (step.Retakes l drops) = (l.0 < 256) × ((top_frame b.frames).at < 65536)
+    × (times holds l.0 < 255)
 IsSafe holds b (step.Frees l drops) = (l.0 < 256) × ((top_frame b.frames).at < 65536)
-IsSafe holds b (step.Tries l) = (l.0 < 256) × ((top_frame b.frames).at < 65536) × (times holds l.0 < 255) × (length b.operands < 256)
+IsSafe holds b (step.Tries l) = (l.0 < 256) × ((top_frame b.frames).at < 65536)
+    × (times holds l.0 < 255) × (length b.operands < 256)
 IsSafe holds b _ = ⊤
 
 -- an entry that goes on behind an instruction tells of the next thing

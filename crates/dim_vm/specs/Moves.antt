@@ -29,7 +29,8 @@ pub record MakesPlain (p : Code) (a b : Place) : Type 0 where
   pub running : a.at.state ≡ Running
   pub paid : 1 ≤ a.at.units
   pub next : next_of p a.at ≡ Plain context
-  pub after : b ≡ record { at = record a.at { units = a.at.units - 1; context = context }; own = a.own }
+  pub after : b
+      ≡ record { at = record a.at { units = a.at.units - 1; context = context }; own = a.own }
 
 -- an entry is made that is no End
 pub record MakesEntry (p : Code) (a b : Place) : Type 0 where

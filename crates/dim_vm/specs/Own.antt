@@ -1,5 +1,5 @@
--- What a thread's own entries say of it.
--- They are written with the newest first, as a history is. A Break is no entry of its thread: one that was broken out still yields by its own entries.
+-- What a thread's own entries say of it. They are written with the newest first, as a history is. A
+-- Break is no entry of its thread: one that was broken out still yields by its own entries.
 use Rattle.std.specs.Prelude.{◌≡◌, ℕ, ⊤, List, ◌∷◌}
 use Rattle.dim_base.specs.declared.Lid.{Lid}
 use Rattle.dim_rag.specs.declared.entry.Entry.{Entry}

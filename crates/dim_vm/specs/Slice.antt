@@ -9,7 +9,8 @@ use Rattle.dim_vm.specs.Moves.{Place, Moves, Finish}
 abbrev pub place : Configuration → Seen → Place
 place c z = record { at = c; own = z.own }
 
--- n moves lead from a to b, and no End: there are q of them, or the thread had ended, or the slice was stopped
+-- n moves lead from a to b, and no End: there are q of them, or the thread had ended, or the slice
+-- was stopped
 pub record HasHalted (p : Code) (a : Place) (q n : ℕ) (b : Place) (stopped : Type 0) : Type 0 where
   pub moves : Moves p a n b
   pub few : n ≤ q
@@ -22,7 +23,10 @@ pub record HasFinished (p : Code) (a : Place) (q n : ℕ) (b : Place) (woken : T
   pub few : n < q
   pub finish : Finish p woken last b
 
--- a slice of at most q moves made n of them and led a machine at its door from c and z to c' and z'. `stopped` and `woken` are the door's, after it
-abbrev pub IsSlice : Code → Configuration → Seen → ℕ → ℕ → Configuration → Seen → Type 0 → Type 0 → Type 0
+-- a slice of at most q moves made n of them and led a machine at its door from c and z to c' and
+-- z'. `stopped` and `woken` are the door's, after it
+abbrev pub IsSlice : Code → Configuration → Seen → ℕ → ℕ → Configuration → Seen → Type 0 → Type 0
+    → Type 0
 IsSlice p c z q n c' z' stopped woken =
-    HasHalted p (place c z) q n (place c' z') (WasStopped z z' × stopped) ⊎ HasFinished p (place c z) q n (place c' z') woken
+    HasHalted p (place c z) q n (place c' z') (WasStopped z z' × stopped)
+    ⊎ HasFinished p (place c z) q n (place c' z') woken

@@ -15,7 +15,8 @@ stack_with (Took t l s) = s
 stack_with (Miss t l s why) = s
 stack_with _ = []
 
--- a frame is at an instruction: its number is that of a function which has an instruction at its offset
+-- a frame is at an instruction: its number is that of a function which has an instruction at its
+-- offset
 pub record IsAtInstruction (p : Code) (frame : Frame) : Type 0 where
   pub func : ℕ
   pub number : frame.func ≡ number_of p func
@@ -23,8 +24,11 @@ pub record IsAtInstruction (p : Code) (frame : Frame) : Type 0 where
 
 -- in a walk each frame of each stack is at an instruction
 abbrev pub AskedLaw : Type 0
-AskedLaw = (p : Code) (fuel : ℕ) (h : List Entry) → Walks p fuel h → All (λ e. All (IsAtInstruction p) (stack_with e)) h
+AskedLaw = (p : Code) (fuel : ℕ) (h : List Entry) → Walks p fuel h
+    → All (λ e. All (IsAtInstruction p) (stack_with e)) h
 
--- where a program is bound to a table of names, a frame at an instruction has a name in the table, and no offset is above 65,535
+-- where a program is bound to a table of names, a frame at an instruction has a name in the table,
+-- and no offset is above 65,535
 abbrev pub NamedLaw : Type 0
-NamedLaw = (names : List (List ℕ)) (p : Code) (frame : Frame) → IsProgram p → IsBound names p → IsAtInstruction p frame → (frame.func < length names) × (frame.at ≤ 65535)
+NamedLaw = (names : List (List ℕ)) (p : Code) (frame : Frame) → IsProgram p → IsBound names p
+    → IsAtInstruction p frame → (frame.func < length names) × (frame.at ≤ 65535)

@@ -41,7 +41,8 @@ IsRow b r (Ok s) b' = (r ≡ Ok (told_by b s b')) × Keeps b s b'
 IsRow b r (Err k) b' = (r ≡ Err k) × (b' ≡ b)
 
 -- what comes after an instruction that was made, or trapped
-abbrev pub IsAfter : List CallFrame → Result (Unit {0}) Trap → Result Step Trap → List CallFrame → Type 0
+abbrev pub IsAfter : List CallFrame → Result (Unit {0}) Trap → Result Step Trap → List CallFrame
+    → Type 0
 IsAfter fs (Ok u) r fs' = (r ≡ Ok step.Plain) × (fs' ≡ advanced fs)
 IsAfter fs (Err k) r fs' = (r ≡ Err k) × (fs' ≡ fs)
 
@@ -59,7 +60,8 @@ tried_shows l ns = if nat_lt (length ns) 256 then Ok (step.Tries l) else Err Ove
 abbrev pub try_shows : List ℕ → Lid → List ℤ → Result Step Trap
 try_shows holds l ns = if nat_lt (times holds l.0) 255 then tried_shows l ns else Err Relock
 
--- how often a lock is held that isn't held, that may be taken, that is held and may be taken once more, and that may be freed
+-- how often a lock is held that isn't held, that may be taken, that is held and may be taken once
+-- more, and that may be freed
 abbrev pub IsFree : ℕ → Type 0
 IsFree n = n ≡ 0
 

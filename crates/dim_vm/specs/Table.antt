@@ -18,8 +18,9 @@ use Rattle.dim_vm.specs.Frames.{entered, top_frame, at_offset, advanced, local, 
 abbrev pub begun : ℕ → ℤ → Context
 begun f n = record { frames = entered f ∷ []; operands = n ∷ []; said = 0; last = pos 0 }
 
--- a plain instruction, with what it leaves; an ending; or an instruction about a lock, with the lock and what it leaves:
--- at a Got, at a Took of a lock that is held, at a Free, and at a Took and a Miss of a lock that is tried
+-- a plain instruction, with what it leaves; an ending; or an instruction about a lock, with the
+-- lock and what it leaves: at a Got, at a Took of a lock that is held, at a Free, and at a Took and
+-- a Miss of a lock that is tried
 pub data Next : Type 0 where
   Plain : Context → Next
   Ends : Why → Next

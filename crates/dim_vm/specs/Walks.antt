@@ -30,7 +30,8 @@ is_by t (Some u) = u.0 == t.0
 abbrev pub own_of : Tid → List Entry → List Entry
 own_of t h = filter (λ e. is_by t (caller_of e)) h
 
--- the configuration of t after a history, the newest entry first, in which each thread began with so much fuel
+-- the configuration of t after a history, the newest entry first, in which each thread began with
+-- so much fuel
 abbrev pub configuration : Code → ℕ → Tid → List Entry → Configuration
 configuration p fuel t h = led p t fuel (own_of t h)
 
@@ -53,7 +54,8 @@ abbrev pub Walks : Code → ℕ → List Entry → Type 0
 Walks p fuel [] = ⊤
 Walks p fuel (e ∷ h) = FitsCaller p fuel h e (caller_of e) × Walks p fuel h
 
--- an End as spent of t, which its own entries leave so, is of one that is woken, if it yields by them
+-- an End as spent of t, which its own entries leave so, is of one that is woken, if it yields by
+-- them
 abbrev pub WokenIn : Code → Tid → List Entry → State → Type 0
 WokenIn p t h (Yields l) = IsWoken p t h
 WokenIn p t h _ = ⊤

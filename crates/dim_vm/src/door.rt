@@ -7,7 +7,8 @@ use dim_rag::{Command, Reply};
 
 /// The gate as one machine sees it.
 pub trait Door {
-    /// The thread, the number of locks, the thread's own entries, the last reply, for how many entries there is room, and how many replies were Busy or Still.
+    /// The thread, the number of locks, the thread's own entries, the last reply, for how many
+    /// entries there is room, and how many replies were Busy or Still.
     ghost seen: { Self → Seen };
 
     /// The thread can't go on, by what was last seen of the history.
@@ -16,7 +17,8 @@ pub trait Door {
     /// Not all causes of the thread's latest Yield stand, by what was last seen of the history.
     ghost woken: { Self → Type 0 };
 
-    /// The second may come of the first by asks. What else stands behind a door and what asks do to it, each door says for itself.
+    /// The second may come of the first by asks. What else stands behind a door and what asks do to
+    /// it, each door says for itself.
     ghost reaches: { Self → Self → Type 0 };
 
     /// Asks the gate.
@@ -37,7 +39,8 @@ pub trait Door {
     ghost reaches_on: { (a b c : Self) → reaches a b → reaches b c → reaches a c };
 }
 
-/// How many replies were Busy or Still, after one more reply, where so many were before it. At 2^64 - 1 it stands still.
+/// How many replies were Busy or Still, after one more reply, where so many were before it. It
+/// stands still at 2^64 - 1.
 pub fn stops_after(reply: &Reply, stops: u64) -> u64
     ensures { result ≡ stops_after reply.now stops }
 {

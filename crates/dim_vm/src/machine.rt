@@ -43,7 +43,8 @@ impl Model for Machine {
 }
 
 impl Machine {
-    /// The machine of a thread of the program at its start: its function at offset 0 with its argument as the one operand, and so many units.
+    /// The machine of a thread of the program at its start: its function at offset 0 with its
+    /// argument as the one operand, and so many units.
     pub fn new(program: &Program, t: Tid, fuel: u32) -> Machine
         requires { t.0 < thread_count program.now }
         ensures value { result ≡ start program.now t fuel }

@@ -30,7 +30,8 @@ abbrev pub is_dashed : List ℕ → Bool
 is_dashed [] = false
 is_dashed (b ∷ bytes) = b == 45
 
--- the words for the parser so far, the options met, and how many names come before that of the history
+-- the words for the parser so far, the options met, and how many names come before that of the
+-- history
 pub record Kept : Type 0 where
   pub words : List (List ℕ)
   pub seen : Seen

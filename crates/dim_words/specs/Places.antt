@@ -5,7 +5,8 @@ use Rattle.dim_words.specs.declared.kind.Setting.{Setting}
 use Rattle.dim_words.specs.declared.kind.Setting.TheVariants.{Fuel, Quantum, Depth, Seed, Workers}
 use Rattle.dim_words.specs.Words.{Parted, parted, setting_in, value_of}
 
--- the setting of the option that stands at position i: the word there is an option of the command, and none stands right before it
+-- the setting of the option that stands at position i: the word there is an option of the command,
+-- and none stands right before it
 abbrev pub option_at : Kind → List (List ℕ) → ℕ → Option Setting
 option_at k words zero = option_and_then (setting_in k) (slice_get words 0)
 option_at k words (suc i) = if is_some (option_at k words i) then None else option_and_then (setting_in k) (slice_get words (suc i))
@@ -42,25 +43,32 @@ pub record IsGiven (words : List (List ℕ)) (s : Setting) (i n : ℕ) : Type 0 
   pub there : slice_get words (suc i) ≡ Some value
   pub spelled : value_of s value ≡ Some n
 
--- the names are the words that are neither options nor behind one, in order; each option gives its setting the value that is spelled behind it;
--- nothing else gives a value; and no option stands twice
+-- the names are the words that are neither options nor behind one, in order; each option gives its
+-- setting the value that is spelled behind it; nothing else gives a value; and no option stands
+-- twice
 pub record IsParting (k : Kind) (words : List (List ℕ)) (p : Parted) : Type 0 where
   pub names : p.names ≡ names_among k words (length words)
-  pub values : (i : ℕ) (s : Setting) → option_at k words i ≡ Some s → (n : ℕ) × IsGiven words s i n × (given_in s p ≡ Some n)
-  pub only : (s : Setting) (n : ℕ) → given_in s p ≡ Some n → (i : ℕ) × (option_at k words i ≡ Some s)
-  pub once : (i j : ℕ) (s : Setting) → option_at k words i ≡ Some s → option_at k words j ≡ Some s → i ≡ j
+  pub values : (i : ℕ) (s : Setting) → option_at k words i ≡ Some s
+      → (n : ℕ) × IsGiven words s i n × (given_in s p ≡ Some n)
+  pub only : (s : Setting) (n : ℕ) → given_in s p ≡ Some n
+      → (i : ℕ) × (option_at k words i ≡ Some s)
+  pub once : (i j : ℕ) (s : Setting) → option_at k words i ≡ Some s → option_at k words j ≡ Some s
+      → i ≡ j
 
 -- no word stands behind position i, or one that is no value of the setting
 abbrev pub HasNoValue : List (List ℕ) → Setting → ℕ → Type 0
-HasNoValue words s i = (slice_get words (suc i) ≡ None) ⊎ ((word : List ℕ) × (slice_get words (suc i) ≡ Some word) × (value_of s word ≡ None))
+HasNoValue words s i = (slice_get words (suc i) ≡ None)
+    ⊎ ((word : List ℕ) × (slice_get words (suc i) ≡ Some word) × (value_of s word ≡ None))
 
 -- an option at position i has no value, or stood before
 pub record IsUnparted (k : Kind) (words : List (List ℕ)) : Type 0 where
   pub i : ℕ
   pub setting : Setting
   pub option : option_at k words i ≡ Some setting
-  pub fault : HasNoValue words setting i ⊎ ((j : ℕ) × (j < i) × (option_at k words j ≡ Some setting))
+  pub fault : HasNoValue words setting i
+      ⊎ ((j : ℕ) × (j < i) × (option_at k words j ≡ Some setting))
 
 -- words part in this way, and do not exactly where an option has no value or stands twice
 abbrev pub PartingLaw : Type 0
-PartingLaw = (k : Kind) (words : List (List ℕ)) → MatchOption (parted k words) (IsUnparted k words) (IsParting k words)
+PartingLaw = (k : Kind) (words : List (List ℕ))
+    → MatchOption (parted k words) (IsUnparted k words) (IsParting k words)

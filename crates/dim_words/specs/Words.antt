@@ -129,8 +129,9 @@ abbrev pub by_setting : {A : Type 0} → Option Setting → A → (Setting → A
 by_setting None name setting = name
 by_setting (Some s) name setting = setting s
 
--- The words behind a command, read after p. An option makes the next word its value, and each other word is a name.
--- None where an option stands twice, has no value, or one that is no number of its range.
+-- The words behind a command, read after p. An option makes the next word its value, and each other
+-- word is a name. None where an option stands twice, has no value, or one that is no number of its
+-- range.
 unfoldable pub parted_after : Kind → Parted → List (List ℕ) → Option Parted
 parted_after k p [] = Some p
 parted_after k p (word ∷ []) = by_setting (setting_in k word) (Some (with_name word p)) (λ s. None)
@@ -189,14 +190,16 @@ are_apart w =
     && not (bytes_eq w.trace w.new_history)
 
 abbrev pub is_run : RunWords → Bool
-is_run w = is_name w.program && is_history w.history && is_name w.new_history && is_name w.trace && are_apart w
+is_run w = is_name w.program && is_history w.history && is_name w.new_history && is_name w.trace
+    && are_apart w
 
 abbrev pub is_check : CheckWords → Bool
 is_check w = is_name w.program && is_history w.history && is_name w.trace
 
 -- the file written differs from the one read
 abbrev pub is_switch : SwitchWords → Bool
-is_switch w = is_history w.history && is_name w.new_history && not (bytes_eq w.history w.new_history)
+is_switch w = is_history w.history && is_name w.new_history
+    && not (bytes_eq w.history w.new_history)
 
 abbrev pub or_default : Option ℕ → ℕ → ℕ
 or_default None n = n

@@ -139,8 +139,8 @@ impl<'a> Kept<'a> {
 
 /// The words for the parser, from those behind a command's word.
 ///
-/// `None` where a word that begins with a dash is neither an option of the command that stands once and has a value
-/// without a dash, nor the lone dash in the history's place.
+/// `None` where a word that begins with a dash is neither an option of the command that stands once
+/// and has a value without a dash, nor the lone dash in the history's place.
 pub fn keep<'a>(
     alloc: Global,
     kind: Kind,

@@ -81,7 +81,8 @@ fn names(alloc: Global, found: &Found) -> Result<Vec<Word>, OutOfMemory>
     Ok(names)
 }
 
-// These names, and the settings that were found. `None` where a setting's word is no number of its range.
+// These names, and the settings that were found. `None` where a setting's word is no number of its
+// range.
 fn with_settings(names: Vec<Word>, found: &Found) -> Option<Parting>
     ensures { result ≡ taken_with names.items found.now }
 {
@@ -95,7 +96,8 @@ fn with_settings(names: Vec<Word>, found: &Found) -> Option<Parting>
     })
 }
 
-// The names and the settings that were found. `None` where a setting's word is no number of its range.
+// The names and the settings that were found. `None` where a setting's word is no number of its
+// range.
 fn taken(alloc: Global, found: &Found) -> Result<Option<Parting>, OutOfMemory>
     ensures { IfOk result (λ p. p ≡ taken found.now) }
 {

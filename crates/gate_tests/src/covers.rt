@@ -165,7 +165,8 @@ fn a_signature_that_is_switched_off_is_not_named(rt: HostRuntime) {
     drop_tables(tables);
 }
 
-/// Lets threads take a lock through one stack and a lock through another, and four more ask through a third.
+/// Lets threads take a lock through one stack and a lock through another, and four more ask through
+/// a third.
 fn take_two_each(rt: &impl Abort, tables: &mut Tables, threads: u32) {
     for t in 0..threads.min(20) {
         append(rt, tables, &took(t, 2 * t, left(1)));
@@ -186,7 +187,8 @@ fn of_three_kinds(rt: &impl Abort, alloc: Global, many: u32) -> Catalogue {
     catalogue_of(rt, alloc, &all[20 - 2 * many.min(10) as usize..])
 }
 
-/// Whether no cover is named where so many threads hold through two stacks, of which a signature has so many each, beside two of a third.
+/// Whether no cover is named where so many threads hold through two stacks, of which a signature
+/// has so many each, beside two of a third.
 fn has_none(rt: &impl Abort, alloc: Global, threads: u32, many: u32) -> bool {
     let catalogue = of_three_kinds(rt, alloc, many);
     let mut tables = new_tables(rt, alloc, 32, 48);
@@ -204,7 +206,8 @@ fn few_threads_of_two_kinds_are_seen_at_once(rt: HostRuntime) {
     assert!(rt; !has_none(&rt, rt.alloc(), 10, 5));
 }
 
-/// Lets threads ask for few locks through two stacks, and eight more each for a lock of its own through two others.
+/// Lets threads ask for few locks through two stacks, and eight more each for a lock of its own
+/// through two others.
 fn ask_for_few(rt: &impl Abort, tables: &mut Tables) {
     for t in 0..20 {
         append(rt, tables, &go(t, t % 5, left(1 + t / 10)));

@@ -114,7 +114,7 @@ fn fresh(rt: &impl Abort, alloc: Global) -> GateState {
     new_gate(rt, alloc, 2, Catalogue::new(alloc), 16)
 }
 
-/// The same, where thread 0 holds a.
+/// A gate for two threads and two locks that knows no signature, where thread 0 holds a.
 fn held(rt: &impl Abort, alloc: Global) -> GateState {
     let mut gate = fresh(rt, alloc);
     due(rt, &mut gate, 0, request(A, stack()), Reply::Go);

@@ -450,7 +450,8 @@ fn an_ended_thread_keeps_what_it_holds(rt: HostRuntime) {
     replay_all(&rt, rt.alloc(), &entries, &AROUND_AN_END);
 }
 
-/// A history of two threads with entries of each kind, whose stacks and births have several lengths.
+/// A history of two threads with entries of each kind, whose stacks and births have several
+/// lengths.
 fn of_each_kind() -> [Entry; 13] {
     [
         go(0, A, deep(9)),
@@ -532,7 +533,8 @@ const AROUND_FREES: [Then; 4] = [
     },
 ];
 
-/// After these entries lock A is held so many times, and the edge of the entry at 2, a Took, is none.
+/// After these entries lock A is held so many times, and the edge of the entry at 2, a Took, is
+/// none.
 fn is_held(rt: &impl Abort, alloc: Global, entries: &[Entry], times: u32) {
     let tables = replay(rt, alloc, entries, &AROUND_FREES);
     counts(rt, &tables, A, times);

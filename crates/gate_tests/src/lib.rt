@@ -1,4 +1,5 @@
-//! Tests of the gate and of what it stands on: entries and the graph, the monitor, covers, replies, and a gate at a turn lock.
+//! Tests of the gate and of what it stands on: entries and the graph, the monitor, covers, replies,
+//! and a gate at a turn lock.
 #![tactic(auto)]
 
 #[cfg(test)]

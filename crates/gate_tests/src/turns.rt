@@ -16,7 +16,8 @@ use std::thread::{Threads, join};
 
 const A: Lid = Lid(0);
 
-/// A turn of a gate for two threads and two locks that knows no signature, with two passes, and the list that they were in.
+/// A turn of a gate for two threads and two locks that knows no signature, with two passes, and the
+/// list that they were in.
 fn begin(
     rt: &impl Abort,
     alloc: Global,

@@ -17,7 +17,8 @@ use dim_vm::{Machine, Slice, State};
 use std::alloc::Global;
 use std::process::Abort;
 
-// The code of a case stands between these two, as the instructions of `main`, whose thread has the argument 7.
+// The code of a case stands between these two, as the instructions of `main`, whose thread has the
+// argument 7.
 const BEFORE: &str = "dim program 1
 lock a
 lock b

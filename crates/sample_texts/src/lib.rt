@@ -1,4 +1,5 @@
-//! The programs, histories, traces and reports that several crates of tests are given or expect, each once.
+//! The programs, histories, traces and reports that several crates of tests are given or expect,
+//! each once.
 #![tactic(auto)]
 
 pub mod histories;

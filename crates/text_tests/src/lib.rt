@@ -1,4 +1,5 @@
-//! Tests of what is read from texts and written: numbers and names, stacks, signatures, histories and programs.
+//! Tests of what is read from texts and written: numbers and names, stacks, signatures, histories
+//! and programs.
 #![tactic(auto)]
 
 #[cfg(test)]

@@ -175,7 +175,8 @@ fn a_lock_that_is_held_is_taken_once_more(rt: HostRuntime) {
     );
 }
 
-/// A run of CHAINED_BESIDE_ONE from INTERLEAVED_BEFORE up to where thread 0 waits for c, and thread 1 yields because of thread 0.
+/// A run of CHAINED_BESIDE_ONE from INTERLEAVED_BEFORE up to where thread 0 waits for c, and thread
+/// 1 yields because of thread 0.
 fn starving() -> [Entry; 6] {
     [
         go(0, 0, at(0, 0)),
@@ -211,7 +212,8 @@ fn rest() -> [Entry; 8] {
     ]
 }
 
-/// This is the verdict on the run of CHAINED_BESIDE_ONE that goes on with these entries, and then to its end.
+/// This is the verdict on the run of CHAINED_BESIDE_ONE that goes on with these entries, and then
+/// to its end.
 fn told_with(rt: &impl Abort, alloc: Global, next: &[Entry], expected: Verdict) {
     told(rt, alloc, STARVING, &[&starving(), next, &rest()], expected);
 }

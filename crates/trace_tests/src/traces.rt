@@ -107,7 +107,8 @@ fn a_line_of_each_kind_of_entry(rt: HostRuntime) {
     done(trace);
 }
 
-// Texts that are no traces of the program above: of each the line of its first fault and the number of its kind.
+// Texts that are no traces of the program above: of each the line of its first fault and the number
+// of its kind.
 const FAULTS: [(&[u8], u32, u32); 56] = [
     (b"", 1, 1),
     (b"dim trace 1", 1, 1),

@@ -13,7 +13,8 @@ pub fn call_stack() -> Stack {
     Stack::new(&[Frame { func: 0, at: 0 }])
 }
 
-/// A caller's command at this step: by turns it asks for the lock with its own number, takes it, and frees it.
+/// A caller's command at this step: by turns it asks for the lock with its own number, takes it,
+/// and frees it.
 pub fn command(caller: u32, step: u32, stack: &Stack) -> Command
     ensures may { (c : Constants) → caller < c.threads → caller < c.locks
         → MayGive c caller result }

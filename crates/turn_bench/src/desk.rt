@@ -16,7 +16,8 @@ use std::thread::{Threads, map_indices};
 /// How many places the ring of a feed has.
 const RING: u32 = 1024;
 
-/// A gate for four threads and four locks that knows no signature, with room for just so many entries.
+/// A gate for four threads and four locks that knows no signature, with room for just so many
+/// entries.
 pub fn new_gate(alloc: Global, room: u32) -> Result<GateState, OutOfMemory>
     ensures sizes { IfOk result (λ gate. (gate.threads ≡ 4) × (gate.locks ≡ 4)) }
     ensures empty { IfOk result (λ gate. gate.entries ≡ []) }

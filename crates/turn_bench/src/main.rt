@@ -1,4 +1,5 @@
-//! What a call at the turn lock costs, beside what the same calls cost without a lock and under a mutex, and what a feed adds.
+//! What a call at the turn lock costs, beside what the same calls cost without a lock and under a
+//! mutex, and what a feed adds.
 #![tactic(auto)]
 
 ghost use Rattle.std.specs.Prelude.{◌≤◌, IfOk};

@@ -13,7 +13,8 @@ use std::sync::{Mutex, Wait};
 use std::thread::Threads;
 use std::time::Instant;
 
-/// How often each figure is taken. At first the pages of the gate's room are new; later gates get the same pages where freed memory is kept.
+/// How often each figure is taken. At first the pages of the gate's room are new; later gates get
+/// the same pages where freed memory is kept.
 const TIMES: u32 = 5;
 
 /// How callers come to a gate.
@@ -21,11 +22,13 @@ const TIMES: u32 = 5;
 pub enum Way {
     /// One caller without a lock.
     Plain,
-    /// The same, at a gate with a feed, of which nobody takes the notes.
+    /// One caller without a lock, at a gate with a feed, of which nobody takes the notes.
     Pushed,
-    /// The same, at a gate with a feed, where the caller takes each note.
+    /// One caller without a lock, at a gate with a feed, who takes each note.
     Fed,
+    /// Callers who take turns at the turn lock.
     Turn,
+    /// Callers who lock a mutex.
     Mutex,
 }
 

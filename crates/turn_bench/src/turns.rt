@@ -12,7 +12,8 @@ use std::alloc::Global;
 use std::sync::Wait;
 use std::thread::{Threads, for_each_mut};
 
-/// A turn of a gate of `new_gate`, and a pass for each of its callers, who may make `steps` entries each.
+/// A turn of a gate of `new_gate`, and a pass for each of its callers, who may make `steps` entries
+/// each.
 pub fn begin(
     alloc: Global,
     callers: u32,

@@ -1,4 +1,5 @@
-//! How a thread of one's own watches a gate: it reads the totals, waits for nobody, and slows nobody down.
+//! How a thread of one's own watches a gate: it reads the totals, waits for nobody, and slows
+//! nobody down.
 #![tactic(auto)]
 
 ghost use Rattle.dim_events.specs.Watching.{IsPassOf};
@@ -19,7 +20,8 @@ fn worked(desk: Desk) -> Desk {
     desk
 }
 
-/// The pass after so many readings of how many requests were granted, with the greatest fall from one reading to the next, and the last.
+/// The pass after so many readings of how many requests were granted, with the greatest fall from
+/// one reading to the next, and the last.
 fn watched(watch: &Watch, pass: WatchPass, readings: u32) -> (WatchPass, u64, u64)
     requires { IsPassOf watch.now pass }
     ensures { IsPassOf watch.now result.0 }

@@ -32,7 +32,8 @@ pub fn wanted_by(sig: &Signature) -> Wanted
     wanted
 }
 
-/// What is kept of an edge with a tag, if it agrees with one of the stacks. It looks at the edge only where the tag is wanted.
+/// What is kept of an edge with a tag, if it agrees with one of the stacks. It looks at the edge
+/// only where the tag is wanted.
 pub fn tagged_candidate(sig: &Signature, wanted: &Wanted, tag: u8, e: &Edge) -> Option<Candidate>
     requires deep { 1 ≤ sig.now.depth }
     requires wanted { AreWanted wanted.now sig.now.stacks }

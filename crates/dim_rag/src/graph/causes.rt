@@ -13,7 +13,8 @@ use dim_base::Tid;
 impl Graph {
     /// The first cause, in order of position, of a thread that yields and whose causes all stand.
     ///
-    /// None exactly where the thread doesn't yield, or is woken: a cause of its Yield has ended, or it had none.
+    /// None exactly where the thread doesn't yield, or is woken: a cause of its Yield has ended, or
+    /// it had none.
     pub fn standing(&self, t: Tid) -> Option<u32>
         requires { t.0 < self.now.threads }
         ensures { result ≡ standing self.now.threads self.now.locks t.0 (past self.now.entries) }
@@ -29,7 +30,8 @@ impl Graph {
         u32::MAX
     }
 
-    /// The place of the first cause of a thread that yields, where all its causes stand and are edges of members of a set; none else.
+    /// The place of the first cause of a thread that yields, where all its causes stand and are
+    /// edges of members of a set; none else.
     pub(crate) fn standing_in(&self, set: u32, t: Tid) -> Option<u32>
         requires { t.0 < self.now.threads }
         ensures { result
@@ -43,7 +45,8 @@ impl Graph {
         }
     }
 
-    /// The first of the births other than a place, if there is one and all of these are births of edges of members.
+    /// The first of the births other than a place, if there is one and all of these are births of
+    /// edges of members.
     fn first_cause(&self, set: u32, births: &Births, place: u32) -> Option<u32>
         ensures { result
             ≡ standing_by (edges_in set self.now.threads self.now.locks (past self.now.entries))

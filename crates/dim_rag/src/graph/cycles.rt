@@ -14,11 +14,13 @@ use crate::graph::trail::Trail;
 use dim_base::Tid;
 
 impl Graph {
-    /// The first position that keeps a list of places from being the births of a cycle, position by position.
+    /// The first position that keeps a list of places from being the births of a cycle, position by
+    /// position.
     ///
-    /// Position `i` passes where its place is the birth of a hold edge, whose owner is allowed on the lock of the
-    /// hold edge with the next birth, and, for `i` above 0, has a greater number than the owner at position 0.
-    /// Behind the last position comes the first. A list shorter than 2 fails at 0.
+    /// Position `i` passes where its place is the birth of a hold edge, whose owner is allowed on
+    /// the lock of the hold edge with the next birth, and, for `i` above 0, has a greater number
+    /// than the owner at position 0. Behind the last position comes the first. A list shorter than
+    /// 2 fails at 0.
     pub fn is_cycle(&self, births: &Births) -> Result<(), u32>
         ensures { MatchResult result
             (λ done. cycle_fault self.now.threads self.now.locks (past self.now.entries) births.now
@@ -37,7 +39,8 @@ impl Graph {
         Ok(())
     }
 
-    /// The hold edge on the lock on which a thread is allowed; none exactly where it is allowed on none, or nobody holds that.
+    /// The hold edge on the lock on which a thread is allowed; none exactly where it is allowed on
+    /// none, or nobody holds that.
     pub fn waits_for(&self, t: Tid) -> Option<Edge>
         requires { t.0 < self.now.threads }
         ensures value { result ≡ waits self.now.threads (past self.now.entries) t.0 }
@@ -49,8 +52,8 @@ impl Graph {
         }
     }
 
-    /// The owner and the birth of the hold edge on the lock on which a thread is allowed; none exactly
-    /// where it is allowed on none, or nobody holds that.
+    /// The owner and the birth of the hold edge on the lock on which a thread is allowed; none
+    /// exactly where it is allowed on none, or nobody holds that.
     pub(crate) fn wait_link(&self, t: Tid) -> Option<Link>
         requires { t.0 < self.now.threads }
         ensures value { result

@@ -11,8 +11,8 @@ use dim_base::{Lid, Tid};
 use dim_stack::Stack;
 
 impl Graph {
-    /// Whether an entry may come next: its thread and its lock, where it has them, are in range, and the mode of
-    /// its thread and the holder of its lock allow it.
+    /// Whether an entry may come next: its thread and its lock, where it has them, are in range,
+    /// and the mode of its thread and the holder of its lock allow it.
     pub fn fits(&self, e: &Entry) -> bool
         ensures { IsTrue result
             ↔ (IsInRange self.now.threads self.now.locks e.now

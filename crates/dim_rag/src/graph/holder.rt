@@ -17,7 +17,8 @@ const MOST_HOLDS: u8 = 255;
 
 /// The hold edge on a lock, or none, which is what a contract sees.
 ///
-/// An edge is large, so it is written where it stays, and what is left of one that has ended isn't cleared.
+/// An edge is large, so it is written where it stays, and what is left of one that has ended isn't
+/// cleared.
 #[derive(Drop)]
 pub struct Holder {
     is_held: bool,

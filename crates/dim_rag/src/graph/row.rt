@@ -99,7 +99,8 @@ impl Row {
         }
     }
 
-    /// Writes the holder of an entry's lock after it, where this is the row of its thread before it.
+    /// Writes the holder of an entry's lock after it, where this is the row of its thread before
+    /// it.
     fn hold(&self, e: &Entry, place: u32, holder: &mut Holder)
         ensures { holder.new ≡ holder_after self.now e.now place }
     {

@@ -15,10 +15,12 @@ use crate::laws::choice_law;
 use dim_base::{Lid, Tid};
 
 impl Graph {
-    /// The births of the starvation of a stuck set with a choice: the one that following steps from the choice runs into.
+    /// The births of the starvation of a stuck set with a choice: the one that following steps from
+    /// the choice runs into.
     ///
-    /// A thread steps to the hold edge on the lock on which it is allowed, or, where it yields and all its causes stand, to the edge of
-    /// the first of them. None exactly where the set has no starvation, and where it has no choice.
+    /// A thread steps to the hold edge on the lock on which it is allowed, or, where it yields and
+    /// all its causes stand, to the edge of the first of them. None exactly where the set has no
+    /// starvation, and where it has no choice.
     pub fn starved(&self, set: u32) -> Option<Births>
         ensures value { result ≡ starved self.now.threads self.now.locks (past self.now.entries)
             set }
@@ -31,11 +33,14 @@ impl Graph {
         self.starved_from(choice)
     }
 
-    /// The first position that keeps a list of places from being the births of a starvation, position by position.
+    /// The first position that keeps a list of places from being the births of a starvation,
+    /// position by position.
     ///
-    /// Position `i` passes where its place is the birth of an edge, whose owner steps to the edge with the next birth and, for `i` above 0, has
-    /// a greater number than the owner at position 0, and whose lock differs from those of the positions before it. Behind the last
-    /// position comes the first. A list shorter than 2 fails at 0, and so does one where every position passes and no owner yields.
+    /// Position `i` passes where its place is the birth of an edge, whose owner steps to the edge
+    /// with the next birth and, for `i` above 0, has a greater number than the owner at position 0,
+    /// and whose lock differs from those of the positions before it. Behind the last position comes
+    /// the first. A list shorter than 2 fails at 0, and so does one where every position passes and
+    /// no owner yields.
     pub fn is_starved(&self, births: &Births) -> Result<(), u32>
         ensures { MatchResult result
             (λ done. starvation_fault self.now.threads self.now.locks (past self.now.entries)
@@ -74,7 +79,8 @@ impl Graph {
         }
     }
 
-    /// The births of the cycle of steps into which those from a thread run; none exactly where they end.
+    /// The births of the cycle of steps into which those from a thread run; none exactly where they
+    /// end.
     fn run_into(&self, t: Tid) -> Option<Births>
         requires { t.0 < self.now.threads }
         ensures { result ≡ run_into (step self.now.threads self.now.locks (past self.now.entries))

@@ -13,8 +13,8 @@ use dim_base::{Lid, Tid};
 impl Graph {
     /// The least member of a set that keeps it from being stuck, or whose number is no thread.
     ///
-    /// A member may be one where it has ended, or is allowed on a lock that a member holds, or yields with
-    /// causes that all stand and whose owners are all members.
+    /// A member may be one where it has ended, or is allowed on a lock that a member holds, or
+    /// yields with causes that all stand and whose owners are all members.
     pub fn is_stuck(&self, set: u32) -> Result<(), Tid>
         ensures reading { MatchResult result
             (λ done. IsStuck self.now.threads self.now.locks (past self.now.entries) set)
@@ -31,7 +31,8 @@ impl Graph {
         Ok(())
     }
 
-    /// The member of a set that yields and holds the most locks, and of these the one with the least number.
+    /// The member of a set that yields and holds the most locks, and of these the one with the
+    /// least number.
     ///
     /// None exactly where no member yields.
     pub fn choice(&self, set: u32) -> Option<Tid>

@@ -6,10 +6,11 @@ use dim_base::Tid;
 use http_server::Log;
 use std::marker::Model;
 
-/// The entries that were told, oldest first. A contract sees them; at run time there is but their number.
+/// The entries that were told, oldest first. A contract sees them; at run time there is but their
+/// number.
 ///
-/// A `Log` is a list that only proofs read: it has no bytes, and its calls do nothing. It is one of pairs; the second of
-/// each is nothing here.
+/// A `Log` is a list that only proofs read: it has no bytes, and its calls do nothing. It is one of
+/// pairs; the second of each is nothing here.
 #[derive(Drop)]
 pub struct Told {
     count: u32,
@@ -32,7 +33,8 @@ impl Told {
     pub fn new() -> Told
         ensures { result ≡ [] }
     {
-        // A value of this type in the function lets the check pass an `Entry` to a generic function.
+        // A value of this type in the function lets the check pass an `Entry` to a generic
+        // function.
         let _why = MissWhy::Busy { holder: Tid(0) };
         Told {
             count: 0,

@@ -17,15 +17,18 @@ use dim_base::Tid;
 pub enum Trail {
     /// As in a cycle: to the hold edge on the lock on which a thread is allowed.
     Cycle,
-    /// As in a starvation: to that, or from a thread that yields to the edge of its first cause, where all its causes stand.
+    /// As in a starvation: to that, or from a thread that yields to the edge of its first cause,
+    /// where all its causes stand.
     Starvation,
 }
 
 impl Graph {
-    /// The births of the cycle that a trail makes and that begins with a thread, as its least one; none exactly where there is none.
+    /// The births of the cycle that a trail makes and that begins with a thread, as its least one;
+    /// none exactly where there is none.
     ///
-    /// The birth of the first thread's edge is known last, when the trail comes back to it, and stands at place 0. A trail that comes to a
-    /// lesser thread is on no cycle that begins with `first`. It costs at most as many steps as there are threads.
+    /// The birth of the first thread's edge is known last, when the trail comes back to it, and
+    /// stands at place 0. A trail that comes to a lesser thread is on no cycle that begins with
+    /// `first`. It costs at most as many steps as there are threads.
     pub fn cycle_from(&self, trail: Trail, first: Tid) -> Option<Births>
         requires { first.0 < self.now.threads }
         ensures { result
@@ -65,8 +68,8 @@ impl Graph {
 
     /// The owner and the birth of the edge to which a thread steps.
     ///
-    /// That is the hold edge on the lock on which it is allowed, or, where it yields and all its causes
-    /// stand, the edge of the first of them.
+    /// That is the hold edge on the lock on which it is allowed, or, where it yields and all its
+    /// causes stand, the edge of the first of them.
     fn step(&self, t: Tid) -> Option<Link>
         requires { t.0 < self.now.threads }
         ensures value { result
@@ -143,7 +146,8 @@ fn next_place(births: &Births, i: u32, first: u32) -> u32
     if i + 1 < len { births.at(i + 1) } else { first }
 }
 
-/// The births of a trail that came back to its first thread. One that came back at once is no cycle.
+/// The births of a trail that came back to its first thread. One that came back at once is no
+/// cycle.
 fn closed(places: &[u32]) -> Option<Births>
     requires { length places.now ≤ 32 }
     ensures { (b : ℕ) (so_far : List ℕ) → places.now ≡ b ∷ so_far → result ≡ close b so_far }

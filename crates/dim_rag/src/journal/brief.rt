@@ -14,7 +14,8 @@ use dim_base::{Lid, Tid};
 use dim_stack::Frame;
 use std::mem::size_of;
 
-/// An entry in brief. Its stack is a span of a list of frames, and its births are the number of an item of a list of these.
+/// An entry in brief. Its stack is a span of a list of frames, and its births are the number of an
+/// item of a list of these.
 #[derive(Clone, Copy)]
 pub enum Brief {
     Went {
@@ -100,7 +101,8 @@ fn keep_births(all: &mut Vec<Births>, births: &Births) -> u32
     number
 }
 
-/// An entry in brief. Its frames and its births are put behind the others, in the room that is there.
+/// An entry in brief. Its frames and its births are put behind the others, in the room that is
+/// there.
 ///
 /// It is inlined, so that the kind of an entry is asked for once where it is known.
 #[inline(always)]

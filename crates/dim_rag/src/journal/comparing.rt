@@ -45,7 +45,8 @@ pub fn stands_for(frames: &[Frame], births: &[Births], brief: &Brief, e: &EntryR
 
 /// Whether a brief stands for an entry, by making the entry that it stands for.
 ///
-/// It isn't inlined, since that is large and a function fills its locals each time that it is called.
+/// It isn't inlined, since that is large and a function fills its locals each time that it is
+/// called.
 #[inline(never)]
 fn stands_for_in_full(frames: &[Frame], births: &[Births], brief: &Brief, e: &EntryRef<'_>) -> bool
     requires within { IsWithin (length frames.now) (length births.now) brief.now }

@@ -11,8 +11,8 @@ const LOWS: usize = 4_294_967_296;
 
 /// Where the frames of a stack lie in a list: from a place on, so many.
 ///
-/// A contract sees the place, `start`, and the number, `len`. The place is kept in two parts, so that
-/// a span takes 8 bytes.
+/// A contract sees the place, `start`, and the number, `len`. The place is kept in two parts, so
+/// that a span takes 8 bytes.
 #[derive(Clone, Copy)]
 pub struct Span {
     low: u32,

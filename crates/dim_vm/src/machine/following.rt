@@ -20,10 +20,12 @@ use dim_rag::{EntryRef, Why};
 use dim_stack::Frame;
 
 impl Machine {
-    /// Makes the plain instructions that come next, and then goes on by an entry, if that tells what it does next. It answers whether it does.
+    /// Makes the plain instructions that come next, and then goes on by an entry, if that tells
+    /// what it does next. It answers whether it does.
     ///
-    /// With a unit left at a LOCK, which is too few to ask, it ends as spent only where it may: a thread may that runs, or is woken.
-    /// It takes no memory. One that an entry does not fit may have done a part, and is of no further use.
+    /// With a unit left at a LOCK, which is too few to ask, it ends as spent only where it may: a
+    /// thread may that runs, or is woken. It takes no memory. One that an entry does not fit may
+    /// have done a part, and is of no further use.
     pub fn follow(&mut self, program: &Program, e: &EntryRef<'_>, may_end: bool) -> bool
         ensures fits { IsTrue result
             ↔ FitsEntry program.now (IsTrue may_end) (rested program.now self.old) (shown e.now) }

@@ -136,7 +136,8 @@ fn locks_that_are_held_are_taken_once_more(rt: HostRuntime) {
     done(program);
 }
 
-/// The stack at offset 1 of `takes`, the sixth function behind `main`, where `main` calls it at offset 1.
+/// The stack at offset 1 of `takes`, the sixth function behind `main`, where `main` calls it at
+/// offset 1.
 fn in_takes(program: &Program) -> Stack {
     let (func, at) = (program.number(6), 1);
     let caller = program.number(0);

@@ -16,7 +16,8 @@ use dim_vm::{Door, stops_after};
 use std::alloc::Global;
 use std::marker::Model;
 
-/// How often the thread is kept from its locks: so many Yields, then so many Stills, the last of which is a Woken, and so many Busys.
+/// How often the thread is kept from its locks: so many Yields, then so many Stills, the last of
+/// which is a Woken, and so many Busys.
 #[derive(Clone, Copy, Debug)]
 pub struct Script {
     pub yields: u32,
@@ -241,7 +242,8 @@ impl Fake {
         Reply::MissBusy { holder: OTHER }
     }
 
-    /// Hands over a lock that was asked for, unless the script has Stills, for a thread that yields, or Busys.
+    /// Hands over a lock that was asked for, unless the script has Stills, for a thread that
+    /// yields, or Busys.
     fn hand_over(&mut self) -> Reply
         ensures reply { IsAcquired (mode_in self.old) result }
         ensures kept { self.new ≡ self.old }

@@ -13,7 +13,8 @@ const A: Lid = Lid(0);
 
 const CODE: &str = "PUSH 1\nPOP\nLOCK a\nUNLOCK a\nHALT";
 
-// Whether the first thread of a program, with so much fuel, goes on by each of these entries, in order.
+// Whether the first thread of a program, with so much fuel, goes on by each of these entries, in
+// order.
 fn follows(program: &Program, fuel: u32, may_end: bool, entries: &[Entry]) -> bool {
     let _some = program.threads();
     let mut machine = Machine::new(program, T, fuel);

@@ -5,7 +5,8 @@ use std::alloc::Global;
 use std::fmt::Write;
 use std::process::Abort;
 
-/// The operands that a code leaves, the newest first: each is said, after those above it, in a run of its own.
+/// The operands that a code leaves, the newest first: each is said, after those above it, in a run
+/// of its own.
 fn operands_after(rt: &impl Abort, alloc: Global, code: &str, script: Script) -> Vec<i64> {
     let mut code = String::from_str(alloc, code).expect(rt, "a text");
     let mut operands = Vec::new(alloc);

@@ -10,8 +10,8 @@ const WAITS: State = State::Waits { l: A };
 
 const YIELDS: State = State::Yields { l: A };
 
-/// The Yields, Stills and Busys of a script; the fuel, and the moves that a slice may make; and the moves that it makes,
-/// the units, the state, the asks and the entries after it.
+/// The Yields, Stills and Busys of a script; the fuel, and the moves that a slice may make; and the
+/// moves that it makes, the units, the state, the asks and the entries after it.
 type Case = ((u32, u32, u32), (u32, u16), (u32, u32, State, u64, usize));
 
 /// A slice that begins at `LOCK a`.

@@ -99,7 +99,8 @@ const TRAPS: [(&str, u8, u32); 65] = [
     ("CALL falls_off\nRET", FELL_OFF, 2),
 ];
 
-/// All operands that there may be: the argument, a 0 in each of 250 rounds that local 0 counts, and five more.
+/// All operands that there may be: the argument, a 0 in each of 250 rounds that local 0 counts, and
+/// five more.
 const FULL: &str = "PUSH 0
 GETL 0
 PUSH 1

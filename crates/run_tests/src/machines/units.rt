@@ -23,7 +23,8 @@ const FELL_OFF: State = State::Ended {
     why: Why::Trapped { trap: 9 },
 };
 
-/// A code; the fuel, and the moves that a slice may make; and the moves that it makes, the units, the state and the entries after it.
+/// A code; the fuel, and the moves that a slice may make; and the moves that it makes, the units,
+/// the state and the entries after it.
 type Case = (&'static str, (u32, u16), (u32, u32, State, usize));
 
 const PAYS: [Case; 39] = [
