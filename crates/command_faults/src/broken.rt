@@ -1,9 +1,9 @@
 //! Texts that are cut off at each byte, and a history of which each byte is altered.
 use crate::calls::{call, done, lacks};
 use command_calls::Around;
-use sample_texts::histories::{LEARNT, LEARNT_BEFORE};
-use sample_texts::programs::SMALLEST;
-use sample_texts::traces;
+use samples::histories::{LEARNT, LEARNT_BEFORE};
+use samples::programs::SMALLEST;
+use samples::traces;
 use std::alloc::Global;
 use std::process::Abort;
 use std::sync::Wait;

@@ -1,7 +1,7 @@
 //! Calls over files that are given by their names and bytes, and what they are to leave.
 use command_calls::{Around, driven};
 use dim_base::{MemFiles, MemSink, Word};
-use sample_texts::programs::SMALLEST;
+use samples::programs::SMALLEST;
 use std::alloc::Global;
 use std::process::Abort;
 use std::sync::Wait;

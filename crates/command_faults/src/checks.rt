@@ -2,9 +2,9 @@
 
 use crate::calls::{answers, call, call_after, done, ended, failing, says};
 use command_calls::Around;
-use sample_texts::histories::{INTERLEAVED, LEARNT};
-use sample_texts::programs::{CHAINED, CROSSED, PLAIN, SMALLEST};
-use sample_texts::traces;
+use samples::histories::{INTERLEAVED, LEARNT};
+use samples::programs::{CHAINED, CROSSED, PLAIN, SMALLEST};
+use samples::traces;
 use std::alloc::Global;
 use std::process::Abort;
 use std::sync::Wait;

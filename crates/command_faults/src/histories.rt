@@ -2,8 +2,8 @@
 
 use crate::calls::{answers, call, done, ended, is_too_long, keeps};
 use command_calls::large::{many_signatures, many_signatures_before};
-use sample_texts::histories::{LEARNT_BEFORE, SWITCHED_OFF};
-use sample_texts::programs::SMALLEST;
+use samples::histories::{LEARNT_BEFORE, SWITCHED_OFF};
+use samples::programs::SMALLEST;
 use std::alloc::Global;
 use std::process::Abort;
 use std::sync::Wait;

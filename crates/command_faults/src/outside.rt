@@ -1,9 +1,9 @@
 //! Each call outside fails once, and each file is absent once.
 use crate::calls::{done, ended, failing, keeps, keeps_front, refuses, says};
 use command_calls::Around;
-use sample_texts::histories::EMPTY;
-use sample_texts::programs::SMALLEST;
-use sample_texts::traces;
+use samples::histories::EMPTY;
+use samples::programs::SMALLEST;
+use samples::traces;
 use std::alloc::Global;
 use std::process::Abort;
 use std::sync::Wait;

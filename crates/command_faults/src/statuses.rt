@@ -1,7 +1,7 @@
 //! Statuses, and the lines that go with them.
 
 use crate::calls::{call, done, ended, is_too_long};
-use sample_texts::programs::SMALLEST;
+use samples::programs::SMALLEST;
 use std::alloc::Global;
 use std::process::Abort;
 use std::sync::Wait;

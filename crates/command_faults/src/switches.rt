@@ -1,7 +1,7 @@
 //! Signatures that are switched off and on.
 use crate::calls::{call, call_after, done, ended, failing, is_too_long, keeps, refuses, says};
-use sample_texts::histories::{AVOIDED, LEARNT, LEARNT_BEFORE, SWITCHED_OFF};
-use sample_texts::programs::SMALLEST;
+use samples::histories::{AVOIDED, LEARNT, LEARNT_BEFORE, SWITCHED_OFF};
+use samples::programs::SMALLEST;
 use std::alloc::Global;
 use std::process::Abort;
 use std::sync::Wait;

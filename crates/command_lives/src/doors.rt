@@ -9,7 +9,7 @@ use dim_base::{MemSink, OutOfMemory};
 use dim_cli::drive;
 use dim_gate::GateState;
 use dim_run::{House, work_round};
-use sample_texts::programs::CROSSED;
+use samples::programs::CROSSED;
 use std::alloc::Global;
 use std::process::Abort;
 use std::sync::Wait;

@@ -6,7 +6,7 @@ use command_calls::Around;
 use command_calls::words::RUN;
 use dim_base::Bytes;
 use dim_cli::generated;
-use sample_texts::programs::SMALLEST;
+use samples::programs::SMALLEST;
 use std::alloc::Global;
 use std::process::Abort;
 use std::sync::Wait;

@@ -3,8 +3,8 @@ use crate::calls::{call, call_after, held, succeeds_after};
 use crate::reports::{as_text, lines_with, number_at};
 use command_calls::words::{CHECK, CHECK_ALONE};
 use command_calls::{Around, loaded};
-use sample_texts::histories::{EMPTY, FIRST_FRAMES, FIVE_FORKS, INTERLEAVED, LEARNT};
-use sample_texts::programs::{
+use samples::histories::{EMPTY, FIRST_FRAMES, FIVE_FORKS, INTERLEAVED, LEARNT};
+use samples::programs::{
     CHAINED, CROSSED, ENDS_HOLDING, LEADS_ON, ONE_AGAINST_TWO, PHILOSOPHERS, SMALLEST,
     THREE_CROSSED,
 };

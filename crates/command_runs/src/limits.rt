@@ -4,9 +4,9 @@ use crate::leaving::{Left, NOTHING_MORE, has_left, leaves, leaves_alone, spends}
 use command_calls::large::{crowd, crowd_history, many_signatures_before};
 use command_calls::words::{SHORT_SLICES, SHORT_SLICES_ALONE};
 use command_calls::{Around, loaded, over};
-use sample_texts::histories::{EMPTY, LEARNT};
-use sample_texts::programs::{CROSSED, NEVER_FREED, PLAIN};
-use sample_texts::traces;
+use samples::histories::{EMPTY, LEARNT};
+use samples::programs::{CROSSED, NEVER_FREED, PLAIN};
+use samples::traces;
 use std::alloc::{AllocError, Global};
 use std::fmt::Write;
 use std::process::Abort;

@@ -2,11 +2,9 @@
 use crate::leaving::Wanted::{Front, Whole};
 use crate::leaving::{Left, NOTHING_MORE, leaves, leaves_alone, spends};
 use command_calls::words::{RUN, SHORT_SLICES_ALONE};
-use sample_texts::histories::{
-    EMPTY, FIVE_FORKS, FIVE_FORKS_AVOIDED, MATCHED_BY_FOUR, MATCHED_BY_ONE,
-};
-use sample_texts::programs::{NESTED, PHILOSOPHERS, PLAIN, TAKEN_TWICE, TRAPPED, TRIES};
-use sample_texts::traces;
+use samples::histories::{EMPTY, FIVE_FORKS, FIVE_FORKS_AVOIDED, MATCHED_BY_FOUR, MATCHED_BY_ONE};
+use samples::programs::{NESTED, PHILOSOPHERS, PLAIN, TAKEN_TWICE, TRAPPED, TRIES};
+use samples::traces;
 
 const SLICES_OF_4_ALONE: [&str; 7] = ["run", "p", "-", "h", "t", "--quantum", "4"];
 

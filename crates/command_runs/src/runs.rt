@@ -3,11 +3,11 @@
 use crate::leaving::Wanted::Whole;
 use crate::leaving::{Left, NOTHING_MORE, leaves, leaves_alone};
 use command_calls::words::{RUN, SHORT_SLICES, SHORT_SLICES_ALONE};
-use sample_texts::histories::{
+use samples::histories::{
     AVOIDED, EMPTY, INTERLEAVED, LEARNT, LEARNT_BEFORE, MOST_YIELDS, SWITCHED_OFF,
 };
-use sample_texts::programs::{CHAINED, CROSSED, ENDS_HOLDING, LEADS_ON, NEVER_FREED, SMALLEST};
-use sample_texts::{reports, traces};
+use samples::programs::{CHAINED, CROSSED, ENDS_HOLDING, LEADS_ON, NEVER_FREED, SMALLEST};
+use samples::{reports, traces};
 
 #[test]
 fn a_thread_may_do_all_in_one_slice(rt: HostRuntime) {

@@ -2,8 +2,8 @@
 
 use crate::leaving::Wanted::Whole;
 use crate::leaving::{Left, NOTHING_MORE, leaves, leaves_alone};
-use sample_texts::histories::{ELSEWHERE, FIRST_FRAMES};
-use sample_texts::programs::{FREES_AND_TAKES, ONE_AGAINST_TWO, PLAIN, THREE_CROSSED};
+use samples::histories::{ELSEWHERE, FIRST_FRAMES};
+use samples::programs::{FREES_AND_TAKES, ONE_AGAINST_TWO, PLAIN, THREE_CROSSED};
 
 const SEED_OF_5: [&str; 9] = ["run", "p", "-", "h", "t", "--seed", "5", "--quantum", "1"];
 

@@ -3,12 +3,12 @@ ghost use Rattle.std.specs.Prelude.{◌≡◌, ◌+◌, ◌≤◌, length};
 ghost use Rattle.dim_rag.specs.History.{past};
 ghost use Rattle.dim_rag.specs.Born.{all_edges};
 
-use crate::entries::{free, go, got, left, took};
 use dim_base::{Lid, Tid};
 use dim_cover::{Index, first_cover};
 use dim_rag::{Births, Edge, Entry, Named, Tables};
 use dim_signature::{Catalogue, Signature};
 use dim_stack::Stack;
+use samples::entries::{free, go, got, left, took};
 use std::alloc::Global;
 use std::process::Abort;
 

@@ -10,7 +10,8 @@ use dim_events::{Inbox, Kind, Watch, WatchPass, pair, status};
 use dim_gate::GateState;
 use dim_rag::{Births, Command, Entry, MissWhy, Mode, Named, Refusal, Reply, Why, same_entry};
 use dim_signature::{Catalogue, Signature};
-use dim_stack::{Frame, Stack};
+use dim_stack::Stack;
+use samples::entries::at;
 use std::alloc::Global;
 use std::process::Abort;
 
@@ -19,11 +20,6 @@ const A: Lid = Lid(0);
 const B: Lid = Lid(1);
 
 const C: Lid = Lid(2);
-
-/// The stack of one frame.
-fn at(func: u32, at: u32) -> Stack {
-    Stack::new(&[Frame { func, at }])
-}
 
 fn stack() -> Stack {
     at(0, 0)

@@ -1,9 +1,9 @@
 ghost use Rattle.std.specs.Prelude.{◌≤◌, length};
 
-use crate::entries::{free, go, got, left, right, took, yielded};
 use dim_base::{Lid, Tid};
 use dim_rag::{Births, Edge, Entry, MissWhy, Mode, Named, Tables, Why, same_entry};
 use dim_stack::{Frame, Stack};
+use samples::entries::{free, go, got, left, right, took, yielded};
 use std::alloc::Global;
 use std::process::Abort;
 

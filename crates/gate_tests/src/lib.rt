@@ -5,8 +5,6 @@
 #[cfg(test)]
 mod covers;
 #[cfg(test)]
-mod entries;
-#[cfg(test)]
 mod gates;
 #[cfg(test)]
 mod graphs;

@@ -1,7 +1,7 @@
-use crate::entries::{free, go, got, left, right, took, yielded};
 use dim_base::Tid;
 use dim_monitor::Monitor;
 use dim_rag::{Births, Entry};
+use samples::entries::{free, go, got, left, right, took, yielded};
 use std::alloc::Global;
 use std::process::Abort;
 

@@ -11,11 +11,11 @@ use dim_monitor::Monitor;
 use dim_rag::{Births, Command, Entry, Why};
 use dim_run::{Finish, Last, Outcome, Run, Settings, play, settle, tell};
 use dim_signature::Catalogue;
-use dim_stack::{Frame, Stack};
-use sample_texts::histories::{
+use samples::entries::{at, end, free, go, got, left, right};
+use samples::histories::{
     EMPTY_BEFORE, INTERLEAVED_BEFORE, LEARNT_BEFORE, MOST_YIELDS, SWITCHED_OFF,
 };
-use sample_texts::programs::{CHAINED, CROSSED, ENDS_HOLDING, LEADS_ON, NEVER_FREED};
+use samples::programs::{CHAINED, CROSSED, ENDS_HOLDING, LEADS_ON, NEVER_FREED};
 use std::alloc::Global;
 use std::process::Abort;
 
@@ -31,11 +31,6 @@ fn settings(fuel: u32) -> Settings
         seed: 0,
         workers: 4,
     }
-}
-
-// The stack of one frame of `left` or `right`.
-fn stack(func: u32, at: u32) -> Stack {
-    Stack::new(&[Frame { func, at }])
 }
 
 /// The run of a program with a history, each given by its text.
@@ -73,35 +68,6 @@ fn knows(rt: &impl Abort, run: &Run, signatures: u64) {
     same(rt, run.catalogue.len() as u64, signatures);
 }
 
-fn done(t: u32) -> Entry {
-    Entry::End {
-        t: Tid(t),
-        why: Why::Done,
-    }
-}
-
-fn free(t: u32, l: u32) -> Entry {
-    Entry::Free {
-        t: Tid(t),
-        l: Lid(l),
-    }
-}
-
-fn go(t: u32, l: u32, func: u32, at: u32) -> Entry {
-    Entry::Go {
-        t: Tid(t),
-        l: Lid(l),
-        stack: stack(func, at),
-    }
-}
-
-fn got(t: u32, l: u32) -> Entry {
-    Entry::Got {
-        t: Tid(t),
-        l: Lid(l),
-    }
-}
-
 /// The Learn of the births 0 and 2.
 fn learn() -> Entry {
     let births = Births::new(&[0, 2]);
@@ -112,12 +78,12 @@ fn learn() -> Entry {
 fn first_deadlock_is_learnt(rt: HostRuntime) {
     let run = run_of(&rt, rt.alloc(), CROSSED, EMPTY_BEFORE, 8_192);
     let wanted = [
-        go(0, 0, 0, 0),
+        go(0, 0, left(0)),
         got(0, 0),
-        go(1, 1, 1, 0),
+        go(1, 1, right(0)),
         got(1, 1),
-        go(0, 1, 0, 1),
-        go(1, 0, 1, 1),
+        go(0, 1, left(1)),
+        go(1, 0, right(1)),
         learn(),
     ];
     has(&rt, &run, 7, &wanted);
@@ -139,11 +105,11 @@ fn a_starvation_is_learnt_and_broken(rt: HostRuntime) {
         got(1, 1),
         free(1, 1),
         free(1, 2),
-        done(1),
+        end(1, Why::Done),
         got(0, 2),
         free(0, 2),
         free(0, 0),
-        done(0),
+        end(0, Why::Done),
     ];
     has(&rt, &run, 16, &wanted);
     ended(&rt, &run, Outcome::Finished);
@@ -159,8 +125,8 @@ fn a_break_may_lead_into_a_known_deadlock(rt: HostRuntime) {
         got(1, 1),
         free(1, 2),
         got(0, 2),
-        go(0, 1, 0, 2),
-        go(1, 0, 1, 3),
+        go(0, 1, left(2)),
+        go(1, 0, right(3)),
     ];
     has(&rt, &run, 13, &wanted);
     ended(&rt, &run, Outcome::Deadlocked);
@@ -172,7 +138,13 @@ fn a_break_may_lead_into_a_known_deadlock(rt: HostRuntime) {
 fn an_ended_cause_is_broken_out(rt: HostRuntime) {
     let run = run_of(&rt, rt.alloc(), ENDS_HOLDING, LEARNT_BEFORE, 8_192);
     let broken = Entry::Break { set: 3, t: Tid(1) };
-    let wanted = [done(0), broken, got(1, 1), free(1, 1), done(1)];
+    let wanted = [
+        end(0, Why::Done),
+        broken,
+        got(1, 1),
+        free(1, 1),
+        end(1, Why::Done),
+    ];
     has(&rt, &run, 8, &wanted);
     close(run);
 }
@@ -219,7 +191,12 @@ fn a_switched_off_signature_is_not_learnt_again(rt: HostRuntime) {
 #[test]
 fn a_lock_of_an_ended_thread_is_never_given(rt: HostRuntime) {
     let run = run_of(&rt, rt.alloc(), NEVER_FREED, EMPTY_BEFORE, 8_192);
-    let wanted = [go(0, 0, 0, 0), got(0, 0), go(1, 0, 1, 0), done(0)];
+    let wanted = [
+        go(0, 0, left(0)),
+        got(0, 0),
+        go(1, 0, right(0)),
+        end(0, Why::Done),
+    ];
     has(&rt, &run, 4, &wanted);
     ended(&rt, &run, Outcome::Stalled);
     close(run);
@@ -277,7 +254,7 @@ fn monitor(rt: &impl Abort, alloc: Global) -> Monitor
 }
 
 /// Thread t asks for lock l, and is to get it where it may.
-fn take(gate: &mut GateState, monitor: &mut Monitor, t: u32, l: u32, at: u32)
+fn take(gate: &mut GateState, monitor: &mut Monitor, t: u32, l: u32, offset: u32)
     requires twin { IsTwin gate.old monitor.old }
     requires thread { t + 1 ≤ gate.old.threads }
     requires lock { l + 1 ≤ gate.old.locks }
@@ -289,7 +266,7 @@ fn take(gate: &mut GateState, monitor: &mut Monitor, t: u32, l: u32, at: u32)
     ensures spare { monitor.old.spare ≤ monitor.new.spare + 2 }
 {
     let l = Lid(l);
-    let stack = stack(t, at);
+    let stack = at(t, offset);
     tell(gate, monitor, t, Command::Request { l, stack });
     tell(gate, monitor, t, Command::Acquire { l });
 }

@@ -1,7 +1,7 @@
 //! Programs are printed as the texts that they were assembled from.
 use crate::programs::{DOORS, bind_with, done, program_of, same};
 use dim_asm::{Program, print};
-use sample_texts::programs::{NESTED, PHILOSOPHERS, PLAIN, SMALLEST, TRAPPED, TRIES};
+use samples::programs::{NESTED, PHILOSOPHERS, PLAIN, SMALLEST, TRAPPED, TRIES};
 use std::alloc::Global;
 use std::process::Abort;
 

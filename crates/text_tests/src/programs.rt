@@ -6,7 +6,7 @@ ghost use Rattle.dim_asm.specs.Code.{func_names};
 use dim_asm::{AsmError, Op, Program, assemble};
 use dim_base::{Lid, OutOfMemory, Tid};
 use dim_stack::{Names, merged_law};
-use sample_texts::programs::PHILOSOPHERS;
+use samples::programs::PHILOSOPHERS;
 use std::alloc::Global;
 use std::fmt::Write;
 use std::process::Abort;

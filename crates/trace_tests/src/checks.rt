@@ -1,13 +1,13 @@
 ghost use Rattle.std.specs.Prelude.{◌≡◌};
 
-use crate::entries::{at, end, free, go, got, immune, took, yielded};
 use dim_asm::assemble;
 use dim_base::Tid;
 use dim_history_file::read;
 use dim_rag::{Births, Entry, MissWhy, Why};
 use dim_trace::{Rule, Trace, Verdict, check};
-use sample_texts::histories::{EMPTY_BEFORE, INTERLEAVED_BEFORE, LEARNT_BEFORE};
-use sample_texts::programs::{CROSSED, PLAIN};
+use samples::entries::{at, end, free, go, got, immune, took, yielded};
+use samples::histories::{EMPTY_BEFORE, INTERLEAVED_BEFORE, LEARNT_BEFORE};
+use samples::programs::{CROSSED, PLAIN};
 use std::alloc::Global;
 use std::process::Abort;
 

@@ -4,6 +4,4 @@
 #[cfg(test)]
 mod checks;
 #[cfg(test)]
-mod entries;
-#[cfg(test)]
 mod traces;

@@ -1,11 +1,11 @@
-use crate::entries::{at, end, free, go, got, immune, took};
 use dim_asm::{Program, assemble};
 use dim_base::{Lid, Tid};
 use dim_rag::{Births, Entry, MissWhy, Named, Why};
 use dim_stack::{Frame, Names, Stack};
 use dim_trace::{Trace, TraceError, check, read_trace, write_trace};
-use sample_texts::programs::{CHAINED, CROSSED};
-use sample_texts::traces;
+use samples::entries::{at, end, free, go, got, immune, took};
+use samples::programs::{CHAINED, CROSSED};
+use samples::traces;
 use std::alloc::Global;
 use std::process::Abort;
 

@@ -1,4 +1,4 @@
-//! Entries and stacks as the tests of traces write them.
+//! Stacks of one frame, and entries.
 use dim_base::{Lid, Tid};
 use dim_rag::{Births, Entry, Why};
 use dim_stack::{Frame, Stack};
@@ -6,6 +6,16 @@ use dim_stack::{Frame, Stack};
 /// The stack of one frame.
 pub fn at(func: u32, at: u32) -> Stack {
     Stack::new(&[Frame { func, at }])
+}
+
+/// The stack of one frame of the function `left`.
+pub fn left(offset: u32) -> Stack {
+    at(0, offset)
+}
+
+/// The stack of one frame of the function `right`.
+pub fn right(offset: u32) -> Stack {
+    at(1, offset)
 }
 
 /// A thread may take a lock that it has asked for.
@@ -58,20 +68,20 @@ pub fn end(t: u32, why: Why) -> Entry {
     Entry::End { t: Tid(t), why }
 }
 
-/// The run of `CROSSED` with `LEARNT`, in slices of two moves: thread 1 yields once.
+/// The entries of `traces::AVOIDED`: thread 1 yields once.
 pub fn immune() -> [Entry; 15] {
     [
-        go(0, 0, at(0, 0)),
+        go(0, 0, left(0)),
         got(0, 0),
-        yielded(1, 1, [0, 2], at(1, 0)),
-        go(0, 1, at(0, 1)),
+        yielded(1, 1, [0, 2], right(0)),
+        go(0, 1, left(1)),
         got(0, 1),
         free(0, 1),
         free(0, 0),
-        go(1, 1, at(1, 0)),
+        go(1, 1, right(0)),
         got(1, 1),
         end(0, Why::Done),
-        go(1, 0, at(1, 1)),
+        go(1, 0, right(1)),
         got(1, 0),
         free(1, 0),
         free(1, 1),
