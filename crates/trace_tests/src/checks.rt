@@ -5,7 +5,7 @@ use dim_base::Tid;
 use dim_history_file::read;
 use dim_rag::{Births, Entry, MissWhy, Why};
 use dim_trace::{Rule, Trace, Verdict, check};
-use samples::entries::{at, end, free, go, got, immune, took, yielded};
+use samples::entries::{at, end, free, go, got, left, right, took, yielded};
 use samples::histories::{EMPTY_BEFORE, INTERLEAVED_BEFORE, LEARNT_BEFORE};
 use samples::programs::{CROSSED, PLAIN};
 use std::alloc::Global;
@@ -21,6 +21,27 @@ const CHAINED_BESIDE_ONE: &[u8] =
 
 /// A program and a history, by their texts, and the fuel of each thread.
 type Setting = (&'static [u8], &'static [u8], u32);
+
+/// The entries of `traces::AVOIDED`: thread 1 yields once.
+pub(crate) fn immune() -> [Entry; 15] {
+    [
+        go(0, 0, left(0)),
+        got(0, 0),
+        yielded(1, 1, [0, 2], right(0)),
+        go(0, 1, left(1)),
+        got(0, 1),
+        free(0, 1),
+        free(0, 0),
+        go(1, 1, right(0)),
+        got(1, 1),
+        end(0, Why::Done),
+        go(1, 0, right(1)),
+        got(1, 0),
+        free(1, 0),
+        free(1, 1),
+        end(1, Why::Done),
+    ]
+}
 
 /// The deadlock of CROSSED, without its Learn.
 fn deadlock() -> [Entry; 6] {

@@ -1,9 +1,10 @@
+use crate::checks::immune;
 use dim_asm::{Program, assemble};
 use dim_base::{Lid, Tid};
 use dim_rag::{Births, Entry, MissWhy, Named, Why};
 use dim_stack::{Frame, Names, Stack};
 use dim_trace::{Trace, TraceError, check, read_trace, write_trace};
-use samples::entries::{at, end, free, go, got, immune, took};
+use samples::entries::{at, end, free, go, got, took};
 use samples::programs::{CHAINED, CROSSED};
 use samples::traces;
 use std::alloc::Global;
