@@ -1,6 +1,7 @@
 //! Tests of machines over a door that follows a script, and of runs.
 #![tactic(auto)]
 
+pub mod fake;
 #[cfg(test)]
 mod lives;
 #[cfg(test)]

@@ -2,14 +2,13 @@
 ghost use Rattle.std.specs.Prelude.{◌≤◌, ◌<◌, ◌^◌};
 
 mod entries;
-mod fake;
 mod following;
 mod instructions;
 mod polls;
 mod traps;
 mod units;
 
-use crate::machines::fake::{Fake, Script};
+use crate::fake::{Fake, Script};
 use dim_asm::{Program, assemble};
 use dim_base::{Lid, Tid};
 use dim_rag::Why;

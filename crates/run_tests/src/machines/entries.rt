@@ -2,7 +2,7 @@
 ghost use Rattle.std.specs.Prelude.{◌≤◌};
 
 use super::{done, program_of, script};
-use crate::machines::fake::{Fake, Script};
+use crate::fake::{Fake, Script};
 use dim_asm::Program;
 use dim_base::{Lid, Tid};
 use dim_rag::{Births, Entry, MissWhy, Why};

@@ -1,6 +1,6 @@
 //! What each instruction does to the operands, the locals, the calls and the sayings.
 use super::{DONE, FREE, Sayings, ends, run, script, trapped};
-use crate::machines::fake::Script;
+use crate::fake::Script;
 use std::alloc::Global;
 use std::fmt::Write;
 use std::process::Abort;

@@ -181,7 +181,9 @@ impl Fake {
     }
 
     /// The entries so far.
-    pub fn entries(&self) -> &[Entry] {
+    pub fn entries(&self) -> &[Entry]
+        ensures { result.now ≡ self.now.own }
+    {
         &self.own
     }
 

@@ -1,7 +1,7 @@
 use Rattle.std.proofs.Common.{arith, ap, sym}
 use Rattle.dim_vm.specs.Door.{Seen}
 use Rattle.dim_vm.proofs.Exports.{yields_last}
-use Rattle.run_tests.proofs.machines.fake.Fake.note.Goals as goal
+use Rattle.run_tests.proofs.fake.Fake.note.Goals as goal
 
 pub invariant_of-self : goal.invariant_of-self
 invariant_of-self c =

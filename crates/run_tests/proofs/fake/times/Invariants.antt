@@ -1,6 +1,6 @@
 use Rattle.std.proofs.Common.{◌≡◌, ◌≤◌, take}
 use Rattle.dim_rag.specs.History.{past, count}
-use Rattle.run_tests.proofs.machines.fake.times.Given as goal
+use Rattle.run_tests.proofs.fake.times.Given as goal
 
 -- how often it is held after the entries so far
 abbrev pub invariant-loop-e : goal.invariant-loop-e
