@@ -1,8 +1,0 @@
-use Rattle.dim_cli.proofs.Drawing.{no_threads, threads_grown}
-use Rattle.dim_cli.proofs.generating.put_threads.Goals as goal
-
-pub loop-number-init : goal.loop-number-init
-loop-number-init c = no_threads _
-
-pub loop-number-preserved : goal.loop-number-preserved
-loop-number-preserved c = threads_grown c.loop-number.number _ _ _ c.loop-number.invariant c.in_ok-put_thread.ensures

@@ -1,5 +1,0 @@
-use Rattle.dim_cli.proofs.Drawing.{words_are}
-use Rattle.dim_cli.proofs.generating.words_of.Goals as goal
-
-pub returns : goal.returns
-returns c = words_are c.args.n c.from.result _ c.from.ensures c.seed_from_u64.ensures

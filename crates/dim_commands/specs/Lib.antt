@@ -1,0 +1,14 @@
+pub mod Check
+pub mod Course
+pub mod Generate
+pub mod Inputs
+pub mod Judging
+pub mod Lawful
+pub mod Live
+pub mod Output
+pub mod Report
+pub mod Run
+pub mod Show
+pub mod Switch
+pub mod Taking
+pub mod Why

@@ -1,0 +1,105 @@
+//! What a command puts at its end.
+ghost use Rattle.std.specs.Prelude.{◌≡◌, ◌++◌, length, map, IfOk, OnOk};
+ghost use Rattle.std.specs.String.{string_bytes};
+ghost use Rattle.dim_events.specs.Kinds.{totals_of};
+ghost use Rattle.dim_gate.specs.Kinds.{kind_of};
+ghost use Rattle.dim_commands.specs.Report.{ending_of, outcome_word, status_of, IsStatus, head_lines, known_line, ran_text, ran};
+
+use crate::ends::put_threads;
+use crate::totals::put_counts;
+use dim_asm::Program;
+use dim_base::{Bytes, OutOfMemory};
+use dim_run::{KeptRun, Outcome};
+use std::alloc::{AllocError, Global};
+use std::fmt::Write;
+
+/// How a command that puts its report has ended.
+#[derive(Clone, Copy, Debug, PartialEq, Eq)]
+pub enum Ending {
+    Done,
+    Deadlocked,
+    Stalled,
+}
+
+impl Ending {
+    /// The status of the command.
+    pub fn status(self) -> u8
+        ensures status { result ≡ status_of self }
+        ensures known { IsStatus result }
+    {
+        match self {
+            Ending::Done => 0,
+            Ending::Deadlocked => 3,
+            Ending::Stalled => 4,
+        }
+    }
+}
+
+/// A report: how the command has ended, and the text that is put.
+#[derive(Debug, Drop)]
+pub struct Report {
+    pub ending: Ending,
+    pub text: Bytes,
+}
+
+fn ending_of(outcome: Outcome) -> Ending
+    ensures { result ≡ ending_of outcome }
+{
+    match outcome {
+        Outcome::Finished => Ending::Done,
+        Outcome::Deadlocked => Ending::Deadlocked,
+        Outcome::Stalled => Ending::Stalled,
+    }
+}
+
+fn word_of(outcome: Outcome) -> &'static str
+    ensures { result.now ≡ outcome_word outcome }
+{
+    match outcome {
+        Outcome::Finished => "finished",
+        Outcome::Deadlocked => "deadlocked",
+        Outcome::Stalled => "stalled",
+    }
+}
+
+#[tactic(auto, unfolding(crate::specs::Report::head_lines))]
+fn head_lines(alloc: Global, outcome: Outcome, entries: u32) -> Result<String, AllocError>
+    ensures { IfOk result (λ text. string_bytes text ≡ head_lines outcome entries) }
+{
+    let word = word_of(outcome);
+    format!(in alloc; "outcome {word}\nentries {entries}\n")
+}
+
+#[tactic(auto, unfolding(crate::specs::Report::known_line))]
+fn put_known(text: &mut String, known: u32) -> Result<(), AllocError>
+    ensures { OnOk result (string_bytes text.new ≡ string_bytes text.old ++ known_line known) }
+{
+    writeln!(text, "signatures {known}")
+}
+
+fn ran_text(alloc: Global, program: &Program, run: &KeptRun) -> Result<String, AllocError>
+    requires { run.now.totals ≡ totals_of (map kind_of run.now.tables.entries) }
+    ensures { IfOk result
+        (λ text. string_bytes text ≡ ran_text program.now run.now.outcome run.now.tables.entries
+        (length run.now.catalogue.sigs) run.now.ends.items) }
+{
+    let mut text = head_lines(alloc, run.outcome, run.tables.len())?;
+    put_counts(&mut text, &run.totals)?;
+    put_known(&mut text, run.catalogue.len())?;
+    put_threads(&mut text, program, &run.ends)?;
+    Ok(text)
+}
+
+/// The report of a run, whose totals are those of its entries.
+pub fn ran(alloc: Global, program: &Program, run: &KeptRun) -> Result<Report, OutOfMemory>
+    requires { run.now.totals ≡ totals_of (map kind_of run.now.tables.entries) }
+    ensures { IfOk result
+        (λ r. r ≡ ran program.now run.now.outcome run.now.tables.entries
+        (length run.now.catalogue.sigs) run.now.ends.items) }
+{
+    let text = ran_text(alloc, program, run)?;
+    Ok(Report {
+        ending: ending_of(run.outcome),
+        text: Bytes::from_vec(text.into_bytes()),
+    })
+}
