@@ -1,0 +1,129 @@
+//! A caller of a domain.
+ghost use Rattle.std.specs.Prelude.{◌≡◌, ◌+◌, ◌<◌, ◌≤◌, [], nat_le, Option, Some, None, IfNone, IfSome, IsNone};
+ghost use Rattle.dim_rag.specs.declared.entry.Mode.TheVariants.{Running};
+ghost use Rattle.dim_turn.specs.Passes.{seen_of};
+ghost use Rattle.dim_mutex.specs.Holdings.{IsKept};
+ghost use Rattle.dim_mutex.specs.Views.{view_of};
+ghost use Rattle.dim_mutex.specs.Standing.{holds, is_running, mode_of, owed, wanted};
+
+use crate::holdings::Holdings;
+use dim_base::{Lid, Tid};
+use dim_run::Pass;
+use dim_stack::{Frame, Stack};
+use std::marker::Model;
+
+mod asking;
+mod locking;
+
+/// One thread of a domain: its right to call at the gate, with what it holds and waits for.
+///
+/// Contracts see what its pass knows: its number, the history that it has seen, its own entries in
+/// it, and how many more it may make. What it holds and waits for is what that history says.
+#[derive(Drop)]
+pub struct Caller {
+    pub(crate) pass: Pass,
+    pub(crate) own: Holdings,
+}
+
+impl Model for Caller {
+    ghost use Rattle.dim_run.specs.Gates.{known};
+    ghost use Rattle.dim_mutex.specs.Views.{CallerView};
+    ghost use Rattle.dim_mutex.specs.Holdings.{IsKept};
+
+    ghost Value = { CallerView };
+
+    ghost view = { λ c. record { seat = c.pass.seat; known = known c.pass } };
+
+    ghost invariant = { λ c. IsKept (known c.pass) c.own };
+}
+
+impl Caller {
+    /// The caller of a pass that has seen no entry.
+    pub(crate) fn new(pass: Pass) -> Caller
+        requires { seen_of pass ≡ [] }
+        ensures { result ≡ view_of pass }
+    {
+        let own = Holdings {
+            held: [false; 256],
+            owed: 0,
+            wants: false,
+            lock: Lid(0),
+            stack: Stack::new(&[Frame { func: 0, at: 0 }]),
+        };
+        Caller { pass, own }
+    }
+
+    /// Its pass, once it is done with.
+    pub(crate) fn into_pass(self) -> Pass
+        ensures { view_of result ≡ self }
+    {
+        self.pass
+    }
+
+    /// What it keeps of how it stands.
+    pub(crate) fn holdings(&self) -> Holdings
+        ensures { IsKept self.now.known result }
+    {
+        self.own
+    }
+
+    /// Its thread's number, from 0.
+    pub fn number(&self) -> Tid
+        ensures { result.0 ≡ self.now.known.number }
+    {
+        Tid(self.pass.number())
+    }
+
+    /// How many entries it may still make.
+    pub fn left(&self) -> u32
+        ensures { result ≡ self.now.known.left }
+    {
+        self.pass.left()
+    }
+
+    /// Whether it holds a lock.
+    pub fn holds(&self, l: Lid) -> bool
+        ensures { result ≡ holds l.0 self.now.known }
+    {
+        match self.own.held.get(l.0 as usize) {
+            Some(held) => *held,
+            None => false,
+        }
+    }
+
+    /// How many locks it holds, so how many entries it owes. It may make so many.
+    pub fn owed(&self) -> u32
+        ensures value { result ≡ owed self.now.known }
+        ensures room { result ≤ self.now.known.left }
+    {
+        let _room = self.pass.left();
+        self.own.owed
+    }
+
+    /// The lock for which it waits, with the stack at which it asked; none exactly where it runs.
+    pub fn pending(&self) -> Option<(Lid, Stack)>
+        ensures value { result ≡ wanted self.now.known }
+        ensures none { IfNone result (mode_of self.now.known ≡ Running) }
+        ensures some { mode_of self.now.known ≡ Running → IsNone result }
+    {
+        if self.own.wants {
+            Some((self.own.lock, self.own.stack))
+        } else {
+            None
+        }
+    }
+
+    /// Whether it runs, so waits for no lock.
+    pub(crate) fn runs(&self) -> bool
+        ensures { result ≡ is_running (mode_of self.now.known) }
+    {
+        !self.own.wants
+    }
+
+    /// Whether it may make so many entries more than it owes.
+    pub(crate) fn has_room(&self, entries: u32) -> bool
+        ensures { result ≡ nat_le (owed self.now.known + entries) self.now.known.left }
+    {
+        self.pass.left() - self.own.owed >= entries
+    }
+}
