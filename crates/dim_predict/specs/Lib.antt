@@ -1,0 +1,12 @@
+pub mod Nestings
+pub mod Candidates
+pub mod LockSets
+pub mod Keys
+pub mod Places
+pub mod Pairs
+pub mod Holding
+pub mod Numbered
+pub mod Cycles
+pub mod Adopted
+pub mod Legal
+pub mod Naming
