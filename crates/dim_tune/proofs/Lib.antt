@@ -1,0 +1,14 @@
+mod Agreeing
+mod Covering
+mod Naming
+mod Knowing
+mod Answering
+mod Least
+mod Places
+mod MadeSteps
+mod Grows
+mod FollowSteps
+mod Finding
+mod Lists
+mod Ran
+mod Filing

@@ -1,0 +1,9 @@
+pub mod Attempts
+pub mod Runs
+pub mod Depths
+pub mod Asked
+pub mod Innermost
+pub mod Raised
+pub mod Made
+pub mod Laws
+pub mod Found

@@ -1,0 +1,147 @@
+//! The entries of a trace, followed one by one.
+ghost use Rattle.std.specs.Prelude.{◌≡◌, ◌+◌, ◌-◌, ◌≤◌, ◌++◌, ◌∷◌, [], ℕ, length, slice_get, IfOk, OnOk, Some};
+ghost use Rattle.dim_asm.specs.Code.{lock_count, thread_count};
+ghost use Rattle.dim_rag.specs.Born.{all_edges};
+ghost use Rattle.dim_rag.specs.Fits.{AreInRange, Fits, FitsAfter, IsInRange};
+ghost use Rattle.dim_rag.specs.History.{past};
+ghost use Rattle.dim_gate.specs.Gate.{Constants};
+ghost use Rattle.dim_gate.specs.Legal.{Legal};
+ghost use Rattle.dim_tune.specs.declared.lowered.Lowered.{Lowered};
+ghost use Rattle.dim_tune.specs.Depths.{AreLeastDepths};
+ghost use Rattle.dim_tune.specs.Innermost.{AreFiled};
+ghost use Rattle.dim_tune.specs.Raised.{AreLowered, AreNext, depths_of};
+
+use crate::innermost::Innermost;
+use crate::lowered::Lowered;
+use crate::raising::{all_lowered, raise_all};
+use dim_asm::Program;
+use dim_base::OutOfMemory;
+use dim_cover::Index;
+use dim_rag::{Entry, Tables};
+use dim_signature::Catalogue;
+use dim_trace::KeptTrace;
+use std::alloc::Global;
+
+/// The entries so far, and each loaded signature at the least depth at which they are legal.
+#[derive(Drop)]
+pub struct Follower {
+    tables: Tables,
+    /// The edges of the entries.
+    index: Index,
+    all: Vec<Lowered>,
+}
+
+impl Follower {
+    /// No entry so far, with room for so many, and each signature at depth 1.
+    pub fn new(
+        alloc: Global,
+        program: &Program,
+        loaded: &Catalogue,
+        entries: u32,
+    ) -> Result<Follower, OutOfMemory>
+        ensures threads { IfOk result (λ f. f.tables.threads ≡ thread_count program.now) }
+        ensures locks { IfOk result (λ f. f.tables.locks ≡ lock_count program.now) }
+        ensures empty { IfOk result (λ f. f.tables.entries ≡ []) }
+        ensures room { IfOk result (λ f. entries ≤ f.tables.spare) }
+        ensures index { IfOk result (λ f. f.index
+            ≡ record { room = thread_count program.now + lock_count program.now; edges = [] }) }
+        ensures lowered { IfOk result (λ f. AreLowered loaded.now.sigs f.all.items) }
+        ensures ones { IfOk result (λ f. (i : ℕ) (x : Lowered) → slice_get f.all.items i ≡ Some x
+            → x.depth ≡ 1) }
+    {
+        let mut tables = Tables::new(alloc, program.threads(), program.locks())?;
+        tables.reserve(entries)?;
+        let index = Index::new(alloc, program.threads(), program.locks())?;
+        let all = all_lowered(alloc, loaded)?;
+        Ok(Follower { tables, index, all })
+    }
+
+    /// Follows all entries of a trace.
+    pub fn follow_all(
+        &mut self,
+        alloc: Global,
+        loaded: &Catalogue,
+        innermost: &Innermost,
+        trace: &KeptTrace,
+    ) -> Result<(), OutOfMemory>
+        requires filed { AreFiled innermost.now.files loaded.now.sigs }
+        requires empty { self.old.tables.entries ≡ [] }
+        requires room { length trace.now.entries ≤ self.old.tables.spare }
+        requires index { self.old.index
+            ≡ record {
+              room = self.old.tables.threads + self.old.tables.locks;
+              edges = [];
+            } }
+        requires fits { Fits (past trace.now.entries) }
+        requires in_range { AreInRange self.old.tables.threads self.old.tables.locks
+            (past trace.now.entries) }
+        requires lowered { AreLowered loaded.now.sigs self.old.all.items }
+        requires ones { (i : ℕ) (x : Lowered) → slice_get self.old.all.items i ≡ Some x
+            → x.depth ≡ 1 }
+        ensures { (c : Constants) → c.loaded ≡ loaded.now.sigs
+            → Legal c (past trace.now.entries)
+            → OnOk result (AreLeastDepths c (past trace.now.entries)
+            (depths_of self.new.all.items)) }
+    {
+        for place in 0..trace.len() {
+            let e = trace.entry(place);
+            self.follow(alloc, loaded, innermost, &e)?;
+        }
+        Ok(())
+    }
+
+    /// Follows the entry that comes next.
+    fn follow(
+        &mut self,
+        alloc: Global,
+        loaded: &Catalogue,
+        innermost: &Innermost,
+        e: &Entry,
+    ) -> Result<(), OutOfMemory>
+        requires filed { AreFiled innermost.now.files loaded.now.sigs }
+        requires room { 1 ≤ self.old.tables.spare }
+        requires in_range { IsInRange self.old.tables.threads self.old.tables.locks e.now }
+        requires fits { FitsAfter (past self.old.tables.entries) e.now }
+        requires index { self.old.index
+            ≡ record {
+              room = self.old.tables.threads + self.old.tables.locks;
+              edges = all_edges (past self.old.tables.entries);
+            } }
+        requires lowered { AreLowered loaded.now.sigs self.old.all.items }
+        ensures tables { OnOk result (self.new.tables ≡ record self.old.tables {
+          entries = self.old.tables.entries ++ e.now ∷ [];
+          spare = self.old.tables.spare - 1;
+        }) }
+        ensures index { OnOk result (self.new.index
+            ≡ record self.old.index
+            { edges = all_edges (e.now ∷ past self.old.tables.entries) }) }
+        ensures lowered { OnOk result (AreLowered loaded.now.sigs self.new.all.items) }
+        ensures next { OnOk result (AreNext loaded.now.sigs (past self.old.tables.entries) e.now
+            self.old.all.items self.new.all.items) }
+    {
+        raise_all(
+            alloc,
+            &mut self.all,
+            loaded,
+            innermost,
+            &self.tables,
+            &self.index,
+            e,
+        )?;
+        self.index.tell(&self.tables, e);
+        self.tables.enter(e);
+        Ok(())
+    }
+
+    /// The depths at which the signatures are tried, in order.
+    pub fn depths(&self, alloc: Global) -> Result<Vec<u8>, OutOfMemory>
+        ensures { IfOk result (λ depths. depths.items
+            ≡ depths_of self.now.all.items) }
+    {
+        let mut depths = Vec::new(alloc);
+        for x in &self.all {
+            depths.push(x.depth)?;
+        }
+        Ok(depths)
+    }
+}
