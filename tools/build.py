@@ -1,0 +1,160 @@
+#!/usr/bin/env python3
+"""Proves and builds the program of this repository: crates that don't stand on each other are proved side by side.
+
+Each crate that the program stands on is made into a library by `rt lib`, once those below it are there, and the program at last by
+`rt run`. One crate at a time is proved in the repository itself, first those with the longest chain of others behind them. The others are
+proved in copies of its sources, which lie in a folder for what passes and are gone at the end: rt lets one command work in a folder at a
+time, and takes over in one what it has proved in another. How many there are at once goes by the processors and the memory.
+
+What is at work is told on standard error, and all that rt says stands in crates/dim/out/build.log."""
+import os
+import pathlib
+import shutil
+import signal
+import subprocess
+import sys
+import tempfile
+import time
+
+ROOT = pathlib.Path(__file__).resolve().parent.parent
+PROGRAM = "dim"
+OUT = ROOT / "crates" / PROGRAM / "out"
+LOG = OUT / "build.log"
+# What a proof takes with one job, and for each further one.
+BYTES, BYTES_MORE = 2_500_000_000, 1_500_000_000
+
+
+def crates_below(program):
+    """The crates that the program stands on and itself, each with those that it names."""
+    named = {}
+    for line in (ROOT / "crates.txt").read_text().splitlines():
+        name, colon, others = line.split("#")[0].partition(":")
+        if colon:
+            named[name.split()[0]] = others.split()
+    found, left = {}, [program]
+    while left:
+        name = left.pop()
+        if name not in found:
+            found[name] = [it for it in named[name] if it in named]
+            left += found[name]
+    return found
+
+
+def sources(name):
+    """The files of a crate that a proof reads."""
+    return [it for part in ("src", "specs", "proofs") for it in sorted((ROOT / "crates" / name / part).rglob("*")) if it.is_file()]
+
+
+def chains(crates):
+    """How much is to be proved from each crate on, along the longest chain of crates that stand on one another, in bytes of text."""
+    own = {it: sum(file.stat().st_size for file in sources(it)) for it in crates}
+    above = {it: [other for other in crates if it in crates[other]] for it in crates}
+    found = {}
+
+    def chain(name):
+        if name not in found:
+            found[name] = own[name] + max([chain(it) for it in above[name]], default=0)
+        return found[name]
+
+    return {it: chain(it) for it in crates}
+
+
+def free_memory():
+    """The bytes of memory that are free, where the system tells."""
+    try:
+        for line in open("/proc/meminfo"):
+            if line.startswith("MemAvailable:"):
+                return int(line.split()[1]) * 1024
+    except OSError:
+        pass
+    return 0
+
+
+def copied(crates, folder):
+    """A copy of the sources, in which one more crate can be proved."""
+    folder.mkdir()
+    for name in crates:
+        (folder / "crates" / name).mkdir(parents=True)
+        for file in sources(name):
+            copy = folder / file.relative_to(ROOT)
+            copy.parent.mkdir(parents=True, exist_ok=True)
+            shutil.copyfile(file, copy)
+    for name in ("crates.txt", "HANDLES"):
+        shutil.copyfile(ROOT / name, folder / name)
+    return folder
+
+
+class Build:
+    def __init__(self, beside):
+        self.crates = crates_below(PROGRAM)
+        self.chains = chains(self.crates)
+        self.done, self.running, self.began = set(), {}, time.time()
+        self.processors = len(os.sched_getaffinity(0))
+        copies = min(2, max(0, self.processors - 2))
+        self.folders = [ROOT, *(copied(self.crates, pathlib.Path(beside, str(it))) for it in range(copies))]
+
+    def ready(self):
+        """The crates whose libraries are all there, first those with the longest chain behind them."""
+        busy = {name for name, _ in self.running.values()}
+        found = [it for it in self.crates if it not in self.done | busy and all(below in self.done for below in self.crates[it])]
+        return sorted(found, key=lambda it: -self.chains[it])
+
+    def start(self, name, folder, jobs):
+        words = ["rt", "run", "--", "--build"] if name == PROGRAM else ["rt", "lib", "--jobs", str(jobs)]
+        with open(LOG, "a") as log:
+            at = folder / "crates" / name
+            child = subprocess.Popen(words, cwd=at, stdin=subprocess.DEVNULL, stdout=log, stderr=log, start_new_session=True)
+        self.running[child] = name, folder
+
+    def start_more(self):
+        """Starts what can be, while there are processors, folders and memory."""
+        for name in self.ready():
+            busy = [folder for _, folder in self.running.values()]
+            free = [it for it in self.folders if it not in busy]
+            jobs = self.processors // min(len(self.running) + len(self.ready()), len(self.folders))
+            needs = BYTES + BYTES_MORE * (jobs - 1)
+            if not free or (self.running and needs > free_memory()):
+                return
+            self.start(name, free[0], max(1, jobs))
+
+    def tell(self):
+        names = " and ".join(name for name, _ in self.running.values())
+        seconds = int(time.time() - self.began)
+        text = f"dim: proving {names}: {len(self.done) + 1} of {len(self.crates)}, {seconds} seconds"
+        print(f"\r{text:<100}", end="", file=sys.stderr, flush=True)
+
+    def wait(self):
+        """Waits until a crate is done, and returns whether its library is there. (Of the program itself the starter tells.)"""
+        while True:
+            for child in list(self.running):
+                if child.poll() is not None:
+                    name, _ = self.running.pop(child)
+                    self.done.add(name)
+                    return child.returncode == 0 or name == PROGRAM
+            self.tell()
+            time.sleep(0.2)
+
+    def end(self, status):
+        """Ends all that is at work, and then this."""
+        for child in self.running:
+            os.killpg(child.pid, signal.SIGTERM)
+        for child in self.running:
+            child.wait()
+        print(file=sys.stderr)
+        sys.exit(status)
+
+    def whole(self):
+        for it in (signal.SIGINT, signal.SIGTERM, signal.SIGHUP):
+            signal.signal(it, lambda *_: self.end(130))
+        while PROGRAM not in self.done:
+            self.start_more()
+            if not self.wait():
+                self.end(1)
+        self.end(0)
+
+
+if __name__ == "__main__":
+    OUT.mkdir(parents=True, exist_ok=True)
+    LOG.write_text("")
+    with tempfile.TemporaryDirectory(prefix="dim-build-") as beside:
+        Build(beside).whole()
