@@ -114,16 +114,16 @@ fn a_text_may_be_cut_off_anywhere(rt: HostRuntime) {
     cut_off(&rt, alloc, "run p - h s", program, 5, &PROGRAM_CUTS);
 }
 
-// The history that was learnt, with a 0 in place of the byte at n.
-fn altered(rt: &impl Abort, alloc: Global, n: usize) -> Vec<u8> {
-    let mut bytes = Vec::from_slice(alloc, LEARNT).expect(rt, "bytes");
+// A text with a 0 in place of the byte at n.
+fn altered(rt: &impl Abort, alloc: Global, text: &[u8], n: usize) -> Vec<u8> {
+    let mut bytes = Vec::from_slice(alloc, text).expect(rt, "bytes");
     assert!(rt; n < bytes.len());
     bytes[n] = 0;
     bytes
 }
 
-fn is_refused<R: Abort + Threads + Wait + Sync>(rt: &R, alloc: Global, n: usize) {
-    let bytes = altered(rt, alloc, n);
+fn is_refused<R: Abort + Threads + Wait + Sync>(rt: &R, alloc: Global, text: &[u8], n: usize) {
+    let bytes = altered(rt, alloc, text, n);
     let after = broken(rt, alloc, "show g", ("g", bytes.as_slice()));
     assert_eq!(rt; after.status, 6, "byte {n}");
     done(after);
@@ -131,7 +131,9 @@ fn is_refused<R: Abort + Threads + Wait + Sync>(rt: &R, alloc: Global, n: usize)
 
 #[test]
 fn no_byte_of_a_history_may_be_altered(rt: HostRuntime) {
-    for n in 0..LEARNT.len() {
-        is_refused(&rt, rt.alloc(), n);
+    for text in [LEARNT, LEARNT_BEFORE] {
+        for n in 0..text.len() {
+            is_refused(&rt, rt.alloc(), text, n);
+        }
     }
 }

@@ -45,7 +45,7 @@ fn a_history_is_shown(rt: HostRuntime) {
 }
 
 // Histories that are refused, and the line that is put of each.
-const BAD: [(&[u8], &str); 3] = [
+const BAD: [(&[u8], &str); 4] = [
     (
         b"dim history 1\nsignature 4 2\nleft:0\nright:0\nend 1",
         "history line 5 kind 2\n",
@@ -57,6 +57,10 @@ const BAD: [(&[u8], &str); 3] = [
     (
         b"dim history 1\nsignature 4 2\nright:0\nleft:0\nend 1\n",
         "history line 4 kind 5\n",
+    ),
+    (
+        b"dim history 1\nsignature 4 2\nleft:0\nright:0\nsignature 7 2\nleft:0\nright:0\nend 2\n",
+        "history line 7 kind 6\n",
     ),
 ];
 
@@ -89,16 +93,18 @@ fn a_history_may_be_too_full(rt: HostRuntime) {
     is_too_full(&rt, rt.alloc(), text, "history full 4081 132476\n");
 }
 
-// A run keeps this history.
-fn is_kept<R: Abort + Threads + Wait + Sync>(rt: &R, alloc: Global, history: &[u8]) {
+// A run of this history keeps it, in this text.
+fn is_kept<R: Abort + Threads + Wait + Sync>(rt: &R, alloc: Global, history: &[u8], text: &[u8]) {
     let after = call(rt, alloc, RUN, &[("p", SMALLEST), ("g", history)]);
     ended(rt, &after, RUN, 0);
-    keeps(rt, alloc, &after, "h", history);
+    keeps(rt, alloc, &after, "h", text);
     done(after);
 }
 
 #[test]
 fn the_largest_history_is_kept(rt: HostRuntime) {
     let text = many_signatures(rt.alloc(), 4080).expect(&rt, "a history");
-    is_kept(&rt, rt.alloc(), text.as_bytes());
+    is_kept(&rt, rt.alloc(), text.as_bytes(), text.as_bytes());
+    let before = many_signatures_before(rt.alloc(), 4080).expect(&rt, "a history");
+    is_kept(&rt, rt.alloc(), before.as_bytes(), text.as_bytes());
 }

@@ -2,7 +2,10 @@
 use crate::leaving::Wanted::{Front, Whole};
 use crate::leaving::{Left, NOTHING_MORE, leaves, leaves_alone, spends};
 use command_calls::words::{RUN, SHORT_SLICES_ALONE};
-use samples::histories::{EMPTY, FIVE_FORKS, FIVE_FORKS_AVOIDED, MATCHED_BY_FOUR, MATCHED_BY_ONE};
+use samples::histories::{
+    EMPTY, FIVE_FORKS, FIVE_FORKS_AVOIDED, FIVE_FORKS_BEFORE, MATCHED_BY_FOUR,
+    MATCHED_BY_FOUR_BEFORE, MATCHED_BY_ONE, MATCHED_BY_ONE_BEFORE,
+};
 use samples::programs::{NESTED, PHILOSOPHERS, PLAIN, TAKEN_TWICE, TRAPPED, TRIES};
 use samples::traces;
 
@@ -33,14 +36,9 @@ fn one_philosopher_yields_once_the_deadlock_is_known(rt: HostRuntime) {
             b"dim trace 1\nsettings 8192 4\ngo 0 f0 phil:2\ngot 0 f0\ngo 1 f1 phil:2\ngot 1 f1\ngo 2 f2 phil:2\ngot 2 f2\ngo 3 f3 phil:2\ngot 3 f3\nyield 4 f4 0 5 0 2 4 6 8 phil:2\n",
         ),
     };
-    leaves(
-        &rt,
-        rt.alloc(),
-        &SLICES_OF_4,
-        PHILOSOPHERS,
-        FIVE_FORKS,
-        left,
-    );
+    for history in [FIVE_FORKS, FIVE_FORKS_BEFORE] {
+        leaves(&rt, rt.alloc(), &SLICES_OF_4, PHILOSOPHERS, history, left);
+    }
 }
 
 #[test]
@@ -53,7 +51,9 @@ fn stacks_that_agree_to_the_depth_are_avoided(rt: HostRuntime) {
         ),
         ..NOTHING_MORE
     };
-    leaves(&rt, rt.alloc(), &SLICES_OF_4, NESTED, MATCHED_BY_ONE, left);
+    for history in [MATCHED_BY_ONE, MATCHED_BY_ONE_BEFORE] {
+        leaves(&rt, rt.alloc(), &SLICES_OF_4, NESTED, history, left);
+    }
 }
 
 #[test]
@@ -66,7 +66,9 @@ fn stacks_that_agree_to_a_lesser_depth_are_not_avoided(rt: HostRuntime) {
         ),
         ..NOTHING_MORE
     };
-    leaves(&rt, rt.alloc(), &SLICES_OF_4, NESTED, MATCHED_BY_FOUR, left);
+    for history in [MATCHED_BY_FOUR, MATCHED_BY_FOUR_BEFORE] {
+        leaves(&rt, rt.alloc(), &SLICES_OF_4, NESTED, history, left);
+    }
 }
 
 #[test]

@@ -4,7 +4,8 @@ use crate::leaving::Wanted::Whole;
 use crate::leaving::{Left, NOTHING_MORE, leaves, leaves_alone};
 use command_calls::words::{RUN, SHORT_SLICES, SHORT_SLICES_ALONE};
 use samples::histories::{
-    AVOIDED, EMPTY, INTERLEAVED, LEARNT, LEARNT_BEFORE, MOST_YIELDS, SWITCHED_OFF,
+    AVOIDED, EMPTY, INTERLEAVED, INTERLEAVED_BEFORE, LEARNT, LEARNT_BEFORE, MOST_YIELDS,
+    SWITCHED_OFF,
 };
 use samples::programs::{CHAINED, CROSSED, ENDS_HOLDING, LEADS_ON, NEVER_FREED, SMALLEST};
 use samples::{reports, traces};
@@ -118,7 +119,9 @@ fn a_starvation_is_learnt_and_broken_out(rt: HostRuntime) {
         trace: Whole(traces::STARVED),
         ..NOTHING_MORE
     };
-    leaves(&rt, rt.alloc(), &SHORT_SLICES, CHAINED, INTERLEAVED, left);
+    for history in [INTERLEAVED, INTERLEAVED_BEFORE] {
+        leaves(&rt, rt.alloc(), &SHORT_SLICES, CHAINED, history, left);
+    }
 }
 
 #[test]
@@ -131,7 +134,9 @@ fn a_break_may_lead_into_a_known_deadlock(rt: HostRuntime) {
         ),
         ..NOTHING_MORE
     };
-    leaves(&rt, rt.alloc(), &SHORT_SLICES, LEADS_ON, INTERLEAVED, left);
+    for history in [INTERLEAVED, INTERLEAVED_BEFORE] {
+        leaves(&rt, rt.alloc(), &SHORT_SLICES, LEADS_ON, history, left);
+    }
 }
 
 #[test]
@@ -143,11 +148,16 @@ fn a_cause_that_has_ended_is_broken_out(rt: HostRuntime) {
         ),
         ..NOTHING_MORE
     };
-    leaves(&rt, rt.alloc(), &SHORT_SLICES, ENDS_HOLDING, LEARNT, left);
+    for history in [LEARNT, LEARNT_BEFORE] {
+        leaves(&rt, rt.alloc(), &SHORT_SLICES, ENDS_HOLDING, history, left);
+    }
 }
 
 // A signature of functions that no program has.
 const OF_NO_FUNCTION: &[u8] = b"dim history 2\nsignature 7 2 on 0\nlost:3\nzoo:0\nend 1\n";
+
+// The same in version 1.
+const OF_NO_FUNCTION_BEFORE: &[u8] = b"dim history 1\nsignature 7 2\nlost:3\nzoo:0\nend 1\n";
 
 #[test]
 fn a_signature_that_names_no_function_is_kept(rt: HostRuntime) {
@@ -159,12 +169,7 @@ fn a_signature_that_names_no_function_is_kept(rt: HostRuntime) {
         trace: Whole(traces::LEARNT),
         ..NOTHING_MORE
     };
-    leaves(
-        &rt,
-        rt.alloc(),
-        &SHORT_SLICES,
-        CROSSED,
-        OF_NO_FUNCTION,
-        left,
-    );
+    for history in [OF_NO_FUNCTION, OF_NO_FUNCTION_BEFORE] {
+        leaves(&rt, rt.alloc(), &SHORT_SLICES, CROSSED, history, left);
+    }
 }

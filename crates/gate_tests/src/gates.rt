@@ -11,7 +11,7 @@ use dim_gate::GateState;
 use dim_rag::{Births, Command, Entry, MissWhy, Mode, Named, Refusal, Reply, Why, same_entry};
 use dim_signature::{Catalogue, Signature};
 use dim_stack::Stack;
-use samples::entries::at;
+use samples::entries::{at, end, go, got, took};
 use std::alloc::Global;
 use std::process::Abort;
 
@@ -311,16 +311,53 @@ fn a_starvation_leaves_sixteen_places(rt: HostRuntime) {
     done(wider);
 }
 
+/// The entry at a place is this one.
+fn stands(rt: &impl Abort, gate: &GateState, place: u32, e: Entry) {
+    assert!(rt; place < gate.tables().len());
+    assert!(rt;
+        same_entry(&gate.tables().entry(place), &e),
+        "place {place}"
+    );
+}
+
+/// What a try enters that finds a held by thread 0.
+fn missed() -> Entry {
+    let why = MissWhy::Busy { holder: Tid(0) };
+    Entry::Miss {
+        t: Tid(1),
+        l: A,
+        stack: stack(),
+        why,
+    }
+}
+
 #[test]
-fn an_ended_thread_is_out_of_turn(rt: HostRuntime) {
-    let mut gate = held(&rt, rt.alloc());
-    let ended = out_of_turn(Mode::Ended { place: 4 });
-    let busy = Reply::MissBusy { holder: Tid(0) };
+fn only_what_is_granted_or_missed_is_entered(rt: HostRuntime) {
+    let mut gate = fresh(&rt, rt.alloc());
+    let mode = Mode::Allowed { l: A, birth: 0 };
+    let holder = Tid(0);
+    let not_owner = Refusal::NotOwner {
+        holder: Some(holder),
+    };
+    due(&rt, &mut gate, 0, request(A, stack()), Reply::Go);
+    due(&rt, &mut gate, 0, request(A, stack()), out_of_turn(mode));
+    due(&rt, &mut gate, 0, acquire(B), out_of_turn(mode));
+    due(&rt, &mut gate, 0, acquire(A), Reply::Got);
     due(&rt, &mut gate, 0, request(A, stack()), Reply::Took);
-    due(&rt, &mut gate, 1, attempt(A), busy);
-    let end = Command::End { why: Why::Done };
-    due(&rt, &mut gate, 0, end, Reply::Ended);
+    due(&rt, &mut gate, 1, release(A), refused(not_owner));
+    due(&rt, &mut gate, 1, attempt(A), Reply::MissBusy { holder });
+    due(&rt, &mut gate, 2, break_out(0, 0), stale());
+    due(&rt, &mut gate, 2, learn_of(Births::new(&[0, 0])), stale());
+    let done_with_it = Command::End { why: Why::Done };
+    due(&rt, &mut gate, 0, done_with_it, Reply::Ended);
+    let ended = out_of_turn(Mode::Ended { place: 4 });
     due(&rt, &mut gate, 0, release(A), ended);
+    has(&rt, &gate, 5);
+    stands(&rt, &gate, 0, go(0, 0, stack()));
+    stands(&rt, &gate, 1, got(0, 0));
+    stands(&rt, &gate, 2, took(0, 0, stack()));
+    stands(&rt, &gate, 3, missed());
+    stands(&rt, &gate, 4, end(0, Why::Done));
     done(gate);
 }
 

@@ -32,6 +32,10 @@ pub const INTERLEAVED_BEFORE: &[u8] = b"dim history 1\nsignature 4 2\nleft:0\nri
 pub const FIVE_FORKS: &[u8] =
     b"dim history 2\nsignature 4 5 on 0\nphil:2\nphil:2\nphil:2\nphil:2\nphil:2\nend 1\n";
 
+/// `FIVE_FORKS` in version 1.
+pub const FIVE_FORKS_BEFORE: &[u8] =
+    b"dim history 1\nsignature 4 5\nphil:2\nphil:2\nphil:2\nphil:2\nphil:2\nend 1\n";
+
 /// `FIVE_FORKS` with one yield.
 pub const FIVE_FORKS_AVOIDED: &[u8] =
     b"dim history 2\nsignature 4 5 on 1\nphil:2\nphil:2\nphil:2\nphil:2\nphil:2\nend 1\n";
@@ -40,9 +44,17 @@ pub const FIVE_FORKS_AVOIDED: &[u8] =
 pub const MATCHED_BY_ONE: &[u8] =
     b"dim history 2\nsignature 1 2 on 0\ntake:0 x:0\ntake:0 y:0\nend 1\n";
 
+/// `MATCHED_BY_ONE` in version 1.
+pub const MATCHED_BY_ONE_BEFORE: &[u8] =
+    b"dim history 1\nsignature 1 2\ntake:0 x:0\ntake:0 y:0\nend 1\n";
+
 /// The stacks of `MATCHED_BY_ONE`, which no stack of `NESTED` agrees with at depth 4.
 pub const MATCHED_BY_FOUR: &[u8] =
     b"dim history 2\nsignature 4 2 on 0\ntake:0 x:0\ntake:0 y:0\nend 1\n";
+
+/// `MATCHED_BY_FOUR` in version 1.
+pub const MATCHED_BY_FOUR_BEFORE: &[u8] =
+    b"dim history 1\nsignature 4 2\ntake:0 x:0\ntake:0 y:0\nend 1\n";
 
 /// A signature that no run of `THREE_CROSSED` comes to.
 pub const ELSEWHERE: &[u8] = b"dim history 2\nsignature 1 2 on 0\nw1:0 f1:1\nw1:1\nend 1\n";
