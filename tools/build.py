@@ -24,13 +24,15 @@ LOG = OUT / "build.log"
 BYTES, BYTES_MORE = 2_500_000_000, 1_500_000_000
 
 
+def listed():
+    """The crates that crates.txt lists, each with its line."""
+    lines = (line.split("#")[0] + "\n" for line in (ROOT / "crates.txt").read_text().splitlines())
+    return [(line.split(":")[0].split()[0], line) for line in lines if ":" in line]
+
+
 def crates_below(program):
     """The crates that the program stands on and itself, each with those that it names."""
-    named = {}
-    for line in (ROOT / "crates.txt").read_text().splitlines():
-        name, colon, others = line.split("#")[0].partition(":")
-        if colon:
-            named[name.split()[0]] = others.split()
+    named = {name: line.partition(":")[2].split() for name, line in listed()}
     found, left = {}, [program]
     while left:
         name = left.pop()
@@ -79,8 +81,8 @@ def copied(crates, folder):
             copy = folder / file.relative_to(ROOT)
             copy.parent.mkdir(parents=True, exist_ok=True)
             shutil.copyfile(file, copy)
-    for name in ("crates.txt", "HANDLES"):
-        shutil.copyfile(ROOT / name, folder / name)
+    shutil.copyfile(ROOT / "HANDLES", folder / "HANDLES")
+    (folder / "crates.txt").write_text("".join(line for name, line in listed() if name in crates))
     return folder
 
 
