@@ -2,9 +2,10 @@
 """Proves and builds the program of this repository: crates that don't stand on each other are proved side by side.
 
 Each crate that the program stands on is made into a library by `rt lib`, once those below it are there, and the program at last by
-`rt run`. One crate at a time is proved in the repository itself, first those with the longest chain of others behind them. The others are
-proved in copies of its sources, which lie in a folder for what passes and are gone at the end: rt lets one command work in a folder at a
-time, and takes over in one what it has proved in another. How many there are at once goes by the processors and the memory.
+`rt run`. One crate at a time is proved in the repository itself, first those with the longest chain of others behind them, with a job for
+each processor. The others are proved in copies of its sources, with half as many and at a lower priority, so that they take the time that
+the first leaves. The copies lie in a folder for what passes and are gone at the end: rt lets one command work in a folder at a time, and takes
+over in one what it has proved in another. How many there are at once goes by the processors and the memory.
 
 What is at work is told on standard error, and all that rt says stands in crates/dim/out/build.log."""
 import os
@@ -103,9 +104,11 @@ class Build:
 
     def start(self, name, folder, jobs):
         words = ["rt", "run", "--", "--build"] if name == PROGRAM else ["rt", "lib", "--jobs", str(jobs)]
+        if folder != ROOT:
+            words = ["nice", "-n", "10", *words]
         with open(LOG, "a") as log:
             at = folder / "crates" / name
-            child = subprocess.Popen(words, cwd=at, stdin=subprocess.DEVNULL, stdout=log, stderr=log, start_new_session=True)
+            child = subprocess.Popen(words, cwd=at, stdin=subprocess.DEVNULL, stdout=log, stderr=log, preexec_fn=os.setpgrp)
         self.running[child] = name, folder
 
     def start_more(self):
@@ -113,11 +116,12 @@ class Build:
         for name in self.ready():
             busy = [folder for _, folder in self.running.values()]
             free = [it for it in self.folders if it not in busy]
-            jobs = self.processors // min(len(self.running) + len(self.ready()), len(self.folders))
-            needs = BYTES + BYTES_MORE * (jobs - 1)
-            if not free or (self.running and needs > free_memory()):
+            if not free:
                 return
-            self.start(name, free[0], max(1, jobs))
+            jobs = self.processors if free[0] == ROOT else max(1, self.processors // 2)
+            if self.running and BYTES + BYTES_MORE * (jobs - 1) > free_memory():
+                return
+            self.start(name, free[0], jobs)
 
     def tell(self):
         names = " and ".join(name for name, _ in self.running.values())
