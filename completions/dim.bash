@@ -3,7 +3,7 @@
 
 _dim() {
     local word=${COMP_WORDS[COMP_CWORD]} before=${COMP_WORDS[COMP_CWORD - 1]} command=${COMP_WORDS[1]}
-    local commands='run live check why show switch generate'
+    local commands='run live immunize check why predict depths show switch generate'
     local options=
     COMPREPLY=()
     if [ "$COMP_CWORD" -eq 1 ]; then
@@ -13,10 +13,12 @@ _dim() {
     case $command in
         run) options='--fuel --quantum --depth --seed' ;;
         live) options='--fuel --quantum --depth --workers' ;;
+        immunize) options='--fuel --quantum --depth --seed --attempts' ;;
+        predict) options='--depth' ;;
     esac
     case $before in
         # what follows is a number
-        --fuel | --quantum | --depth | --seed | --workers) return ;;
+        --fuel | --quantum | --depth | --seed | --workers | --attempts) return ;;
     esac
     case $command,$COMP_CWORD,$word in
         *,*,-?*) mapfile -t COMPREPLY < <(compgen -W "$options" -- "$word") ;;

@@ -3,12 +3,15 @@ use Rattle.std.specs.Prelude.{ℕ, List, Err}
 use Rattle.dim_base.specs.Files.{Named}
 use Rattle.dim_commands.specs.declared.report.Report.{Report}
 use Rattle.dim_commands.specs.declared.stop.Refusal.TheVariants as refusals
-use Rattle.dim_words.specs.Words.{Asked, Run, Live, Check, Why, Show, Generate, Switch}
+use Rattle.dim_words.specs.Words.{Asked, Run, Live, Check, Why, Depths, Predict, Show, Generate, Switch, Immunize}
 use Rattle.dim_cli.specs.Quiet.{quiet_command}
 use Rattle.dim_commands.specs.Course.{Course, ◌>>=◌, ends, wants}
 use Rattle.dim_commands.specs.Run.{run_course}
+use Rattle.dim_commands.specs.Immunize.{immunize_course}
 use Rattle.dim_commands.specs.Check.{check_course}
 use Rattle.dim_commands.specs.Why.{why_course}
+use Rattle.dim_commands.specs.Depths.{depths_course}
+use Rattle.dim_commands.specs.Predict.{predict_course}
 use Rattle.dim_commands.specs.Show.{show_course}
 use Rattle.dim_commands.specs.Generate.{generate_course}
 use Rattle.dim_commands.specs.Switch.{switch_course}
@@ -17,8 +20,11 @@ use Rattle.dim_commands.specs.Switch.{switch_course}
 abbrev pub course_of : Named → Asked → Course Report
 course_of files (Run w) = run_course files w
 course_of files (Live w) = ends (Err refusals.Words)
+course_of files (Immunize w) = immunize_course files w
 course_of files (Check w) = check_course files w
 course_of files (Why w) = why_course files w
+course_of files (Depths w) = depths_course files w
+course_of files (Predict w) = predict_course files w
 course_of files (Show name) = show_course files name
 course_of files (Generate n name) = generate_course n name
 course_of files (Switch w) = switch_course files w

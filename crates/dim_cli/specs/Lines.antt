@@ -27,6 +27,7 @@ refusal_status (refusals.No place rule) = 11
 refusal_status (refusals.Long place) = 12
 refusal_status (refusals.BadTrace fault) = 13
 refusal_status (refusals.NoSignature index) = 14
+refusal_status refusals.ManyNestings = 15
 refusal_status (refusals.Absent place) = 16
 
 -- the line of a fault of a text
@@ -53,6 +54,7 @@ refusal_line (refusals.No place rule) = codes "no "
     ++ (decimal place ++ (codes " " ++ (rule_word rule ++ codes "\n")))
 refusal_line (refusals.BadTrace fault) = bad_line (codes "trace") fault.line (trace_kind_number fault.kind)
 refusal_line (refusals.NoSignature index) = codes "no signature " ++ (decimal index ++ codes "\n")
+refusal_line refusals.ManyNestings = codes "nestings over 4096\n"
 refusal_line (refusals.Long place) = file_line (codes "long") place
 refusal_line (refusals.Absent place) = file_line (codes "absent") place
 

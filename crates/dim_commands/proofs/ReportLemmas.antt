@@ -49,3 +49,12 @@ by_number_more text xs i x h =
     ap (by_number text 0) (take_one_more xs i x h)
     ∙ by_number-last text 0 (take i xs) x
     ∙ ap (λ n. by_number text 0 (take i xs) ++ text n x) (omega (arith, length-take-le i xs (omega (arith, low))))
+
+-- the same where the first value has another number
+pub by_number_from : {X : Type 0} (text : ℕ → X → List ℕ) (first : ℕ) (xs : List X) (i : ℕ) (x : X) → slice_get xs i ≡ Some x
+    → by_number text first (take (i + 1) xs) ≡ by_number text first (take i xs) ++ text (i + first) x
+by_number_from text first xs i x h =
+    let low = slice_get_within xs i x h in
+    ap (by_number text first) (take_one_more xs i x h)
+    ∙ by_number-last text first (take i xs) x
+    ∙ ap (λ n. by_number text first (take i xs) ++ text n x) (omega (arith, length-take-le i xs (omega (arith, low))))

@@ -1,4 +1,4 @@
--- How a trace comes to be judged: what `check` and `why` do before they report.
+-- How a trace comes to be judged: what `check`, `why`, `depths` and `predict` do before they report.
 use Rattle.std.specs.Prelude.{ℕ, List, Err}
 use Rattle.dim_base.specs.Files.{Named}
 use Rattle.dim_signature.specs.Sig.{Sig}

@@ -10,8 +10,6 @@ use Rattle.dim_rag.specs.declared.entry.Entry.{Entry}
 use Rattle.dim_rag.specs.History.{past}
 use Rattle.dim_gate.specs.Known.{known_sigs}
 use Rattle.dim_run.specs.declared.settings.Settings.{Settings}
-use Rattle.dim_run.specs.Rules.{Rules}
-use Rattle.dim_run.specs.Crew.{rules_of}
 use Rattle.dim_run.specs.Grown.{grown}
 use Rattle.dim_run.specs.Run.{played, outcome_of, ends_after}
 use Rattle.dim_trace.specs.Text.{trace_text}
@@ -34,17 +32,18 @@ program_of x = bound (names_of x) x.program
 abbrev pub loaded_of : Inputs → List Sig
 loaded_of x = numbered (names_of x) x.sigs
 
-abbrev pub rules : Inputs → Settings → Rules
-rules x s = rules_of (program_of x) (loaded_of x) s
-
 -- the entries of the run, oldest first
 unfoldable pub entries_of : Inputs → Settings → List Entry
 entries_of x s = played (program_of x) (loaded_of x) s
 
--- the signatures known after some entries, with functions read as names: the loaded ones, and then
--- one for each Learn, and the Yields of the entries counted
+-- the signatures known after some entries of a run that loads these, with functions read as names:
+-- the loaded ones, and then one for each Learn, and the Yields of the entries counted
+abbrev pub grown_from : Inputs → List Sig → Settings → List Entry → List NamedSig
+grown_from x sigs s entries = named (names_of x) (grown sigs s.depth entries)
+
+-- of one that loads those of the history
 abbrev pub grown_by : Inputs → Settings → List Entry → List NamedSig
-grown_by x s entries = named (names_of x) (grown (loaded_of x) s.depth entries)
+grown_by x s entries = grown_from x (loaded_of x) s entries
 
 -- the text of the history after the run
 unfoldable pub new_history : Inputs → Settings → List ℕ

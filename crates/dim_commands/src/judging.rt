@@ -1,6 +1,7 @@
-//! A trace that is judged: what `check` and `why` do before they report.
+//! A trace that is judged: what `check`, `why`, `depths` and `predict` do before they report.
 ghost use Rattle.std.specs.Prelude.{◌≡◌, ◌≤◌, length, Some, IfOk, OnOk};
 ghost use Rattle.dim_base.specs.Files.{Named};
+ghost use Rattle.dim_history_file.specs.Grammar.{AreNear};
 ghost use Rattle.dim_trace.specs.Grammar.{IsTrace};
 ghost use Rattle.dim_words.specs.Commands.{check_words};
 ghost use Rattle.dim_commands.specs.Course.{WhereTold, StopCause, Runs, IsFaultless, HasWords};
@@ -75,6 +76,7 @@ fn take_given(alloc: Global, texts: &Texts) -> Result<Given, Stop>
     ensures runs { (before : Named)
         → Runs given_of (takes_given texts.now) before result (Some before) }
     ensures few { IfOk result (λ g. length g.both.history.catalogue.sigs ≤ 4080) }
+    ensures near { IfOk result (λ g. AreNear g.both.history.catalogue.sigs) }
     ensures trace { IfOk result (λ g. IsTrace g.both.program g.both.history.names g.trace) }
     ensures faultless { IsFaultless result }
     ensures words { HasWords result }
@@ -113,6 +115,7 @@ pub fn judged<F: Files>(
         Runs given_of (judged_course before (check_words command.now)) before result (F.told files.new)) }
     ensures executed { IfOk result (λ g. IsExecuted (given_of g)) }
     ensures few { IfOk result (λ g. length g.both.history.catalogue.sigs ≤ 4080) }
+    ensures near { IfOk result (λ g. AreNear g.both.history.catalogue.sigs) }
     ensures trace { IfOk result (λ g. IsTrace g.both.program g.both.history.names g.trace) }
     ensures cause { StopCause (F.faults files.old) (F.faults files.new) result }
     ensures words { HasWords result }

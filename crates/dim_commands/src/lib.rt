@@ -2,16 +2,21 @@
 //! stops before that.
 #![tactic(auto)]
 
+mod attempts;
 mod binding;
 mod calls;
 pub mod check;
+pub mod depths;
 mod ends;
 mod fetching;
 pub mod generate;
+pub mod immunize;
 mod inputs;
 mod judging;
 pub mod living;
 mod playing;
+pub mod predict;
+mod predicting;
 mod report;
 pub mod run;
 pub mod show;
@@ -20,6 +25,7 @@ mod stop;
 mod storing;
 pub mod switch;
 mod switching;
+mod telling;
 mod totals;
 pub mod why;
 

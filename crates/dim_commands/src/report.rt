@@ -52,7 +52,8 @@ fn ending_of(outcome: Outcome) -> Ending
     }
 }
 
-fn word_of(outcome: Outcome) -> &'static str
+/// The word for an outcome.
+pub fn word_of(outcome: Outcome) -> &'static str
     ensures { result.now ≡ outcome_word outcome }
 {
     match outcome {

@@ -35,6 +35,8 @@ pub enum Refusal {
     No { place: u32, rule: Rule },
     /// The history has no signature with this number.
     NoSignature { index: u32 },
+    /// The nestings of the trace say more than 4,096 different things.
+    ManyNestings,
 }
 
 /// Why a command ends before its report.

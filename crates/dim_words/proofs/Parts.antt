@@ -1,8 +1,8 @@
 -- What the words behind a command's word give, by the way of the parser.
-use Rattle.std.proofs.Common.{◌≡◌, ◌≢◌, ◌⊎◌, ◌∙◌, Bool, false, List, [], Option, Some, None, option_map, option_and_then, refl, sym, ap, subst, arith, inl, inr}
+use Rattle.std.proofs.Common.{◌≡◌, ◌≢◌, ◌⊎◌, ◌∙◌, false, List, [], Option, Some, None, option_map, option_and_then, refl, sym, ap, subst, arith, inl, inr}
 use Rattle.clap.specs.Words.{Text, fault_of}
 use Rattle.dim_words.specs.declared.kind.Kind.{Kind}
-use Rattle.dim_words.specs.declared.kind.Setting.TheVariants.{Fuel, Quantum, Depth, Seed, Workers}
+use Rattle.dim_words.specs.declared.kind.Setting.TheVariants.{Fuel, Quantum, Depth, Seed, Workers, Attempts}
 use Rattle.dim_words.specs.Words.{Parted, asked_by, command_by, history_place, nothing, parted}
 use Rattle.dim_words.specs.Kept.{Kept, begun, kept, unmarked}
 use Rattle.dim_words.specs.Grammar.{Found, IsFound, found_in, sub_rows, whole}
@@ -20,6 +20,7 @@ agree_start Quantum = refl
 agree_start Depth = refl
 agree_start Seed = refl
 agree_start Workers = refl
+agree_start Attempts = refl
 
 command_is : (kind : Kind) (words : List Text) (is : List Item) → items kind words ≡ Some is → command_by kind words ≡ option_and_then (asked_by kind) (part_items nothing is)
 command_is kind words is e = ap (option_and_then (asked_by kind)) (parted_items kind nothing words ∙ ap (option_and_then (part_items nothing)) e)
@@ -63,12 +64,12 @@ found_gives kind words e f h is_found =
     (λ i. names_in (first_name is 0 (omega arith) i) (first_name is 1 (omega arith) i) (first_name is 2 (omega arith) i) (first_name is 3 (omega arith) i))
     ∙ restored (names_of is) (omega (arith, same, wanted_few kind)) in
     sym (ap taken f_is)
-    ∙ (λ i. made (given_value Fuel (first_option is 0 Fuel i)) (given_value Quantum (first_option is 0 Quantum i)) (given_value Depth (first_option is 0 Depth i)) (given_value Seed (first_option is 0 Seed i)) (given_value Workers (first_option is 0 Workers i)) (names i))
+    ∙ (λ i. made (λ t. given_value t (first_option is 0 t i)) (names i))
     ∙ sym (merges is nothing (begun kind) e k.2 agree_start)
     ∙ sym (parted_items kind nothing words ∙ ap (option_and_then (part_items nothing)) k.1)
   where
     names_in : Option Text → Option Text → Option Text → Option Text → List Text
-    names_in a b c d = names_from (record { first = a; second = b; third = c; fourth = d; fuel = None; quantum = None; depth = None; seed = None; workers = None })
+    names_in a b c d = names_from (record { first = a; second = b; third = c; fourth = d; fuel = None; quantum = None; depth = None; seed = None; workers = None; attempts = None })
 
 -- the same of the words that were handed on
 pub not_found_in : (kind : Kind) (words : List Text) (e : Kept) (given : List Text) (o : Option Found) → kept kind words ≡ Some e → given ≡ e.words → o ≡ None → IsFound given o → None ≡ command_by kind words

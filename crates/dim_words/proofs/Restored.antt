@@ -1,5 +1,5 @@
 -- The names that were found are the names of the words.
-use Rattle.std.proofs.Common.{◌≡◌, ◌≤◌, ◌++◌, ℕ, List, [], ◌∷◌, refl, arith, length, slice_get}
+use Rattle.std.proofs.Common.{◌≡◌, ◌≤◌, ◌++◌, List, [], ◌∷◌, refl, arith, length, slice_get}
 use Rattle.clap.specs.Words.{Text}
 use Rattle.dim_words.specs.Found.{one_more}
 

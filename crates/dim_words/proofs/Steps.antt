@@ -1,17 +1,17 @@
 -- What the parser makes of a name, and of an option with its value.
-use Rattle.std.proofs.Common.{◌≡◌, ◌∙◌, ◌++◌, ◌+◌, ◌<◌, ◌≤◌, ◌&&◌, ◌||◌, ◌==◌, not, ℕ, zero, suc, Bool, true, false, true≢false, min, List, [], ◌∷◌, Option, Some, None, refl, sym, ap, subst, codes, bytes_eq, arith, length, if◌then◌else◌, nat_lt}
+use Rattle.std.proofs.Common.{◌≡◌, ◌∙◌, ◌++◌, ◌+◌, ◌<◌, ◌&&◌, ◌||◌, not, ℕ, zero, suc, Bool, true, false, true≢false, min, List, [], ◌∷◌, Option, Some, None, refl, sym, ap, subst, codes, bytes_eq, arith, if◌then◌else◌, nat_lt}
 use Rattle.std.specs.Option.{option_map_or}
 use Rattle.std.proofs.lemmas.Slice.Eq.{bytes_eq-Decides}
 use Rattle.clap.specs.Words.{Row, Rule, Text, Shape}
 use Rattle.clap.specs.Lexer.{long_of, short_of, usize_max}
 use Rattle.clap.specs.Simple.{filled, with_index}
 use Rattle.clap.specs.Kinds.{or_else}
-use Rattle.clap.specs.Walk.{Held, Names, Step, Waiting, Walk, action_of, after_flag, after_step, arg_by_id, arg_by_index, arg_by_long, at_row, has_row, idle, is_pending, long_met, long_or_other, more_values, next, option, option_word as option_takes, plain_word, positional_held, pushed, reading_by, settled, settled_rows, short_or_plain, subcommand_met, subcommand_or_other, takes_several, to_positional, trailing, used, used_by_id, value, walked, with_values, without, word_met}
+use Rattle.clap.specs.Walk.{Held, Waiting, Walk, after_flag, after_step, arg_by_id, arg_by_index, arg_by_long, at_row, has_row, idle, is_pending, long_met, long_or_other, more_values, next, option, option_word as option_takes, plain_word, pushed, reading_by, settled, settled_rows, short_or_plain, subcommand_met, subcommand_or_other, to_positional, trailing, used, value, walked, with_values, without, word_met}
 use Rattle.clap.specs.Faults.{flag_word_fault, long_fault, other_fault, positional_fault, settle_fault, step_fault, stray_fault, turn_fault, use_fault, word_fault, bundle_fault}
 use Rattle.clap.specs.declared.parser.matches.ValueSource.TheVariants.{CommandLine}
 use Rattle.clap.specs.declared.error.kind.ErrorKind.TheVariants.{ArgumentConflict}
 use Rattle.dim_words.specs.declared.kind.Setting.{Setting}
-use Rattle.dim_words.specs.declared.kind.Setting.TheVariants.{Fuel, Quantum, Depth, Seed, Workers}
+use Rattle.dim_words.specs.declared.kind.Setting.TheVariants.{Fuel, Quantum, Depth, Seed, Workers, Attempts}
 use Rattle.dim_words.specs.Words.{is_dash}
 use Rattle.dim_words.specs.Kept.{is_dashed, is_here, may_stand}
 use Rattle.dim_words.specs.Grammar.{name_rule, option_id, option_rule}
@@ -146,6 +146,7 @@ no_dashes_option Quantum = refl
 no_dashes_option Depth = refl
 no_dashes_option Seed = refl
 no_dashes_option Workers = refl
+no_dashes_option Attempts = refl
 
 long_is : (t : Setting) → long_of (option_word t) ≡ Some (option_id t, None)
 long_is Fuel = refl
@@ -153,6 +154,7 @@ long_is Quantum = refl
 long_is Depth = refl
 long_is Seed = refl
 long_is Workers = refl
+long_is Attempts = refl
 
 same_id : (t : Setting) → bytes_eq (option_id t) (option_id t) ≡ true
 same_id Fuel = refl
@@ -160,6 +162,7 @@ same_id Quantum = refl
 same_id Depth = refl
 same_id Seed = refl
 same_id Workers = refl
+same_id Attempts = refl
 
 -- the option, before its value
 abbrev waits_for : List Rule → List Row → Option (Text × List Text) → ℕ → Text → Walk

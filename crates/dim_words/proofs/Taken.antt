@@ -1,227 +1,125 @@
 -- What is taken from what was found is what the words give.
 use Rattle.std.proofs.Common.{◌≡◌, ◌∙◌, ◌++◌, ℕ, Bool, false, true≢false, List, [], ◌∷◌, Option, Some, None, option_map, option_and_then, refl, sym, ap, subst, is_some, append-nil, append_assoc}
-use Rattle.std.specs.Prelude.{unwrap_or}
 use Rattle.clap.specs.Words.{Text}
 use Rattle.dim_words.specs.declared.kind.Setting.{Setting}
-use Rattle.dim_words.specs.declared.kind.Setting.TheVariants.{Fuel, Quantum, Depth, Seed, Workers}
+use Rattle.dim_words.specs.declared.kind.Setting.TheVariants.{Fuel, Quantum, Depth, Seed, Workers, Attempts}
 use Rattle.dim_words.specs.declared.seen.Seen.{Seen}
 use Rattle.dim_words.specs.Words.{Parted, placed, unset, value_of, with_name}
 use Rattle.dim_words.specs.Kept.{Kept, has_seen, keep_given, keep_name, mark}
+use Rattle.dim_words.specs.Places.{given_in}
 use Rattle.dim_words.specs.Found.{given_value}
 use Rattle.dim_words.proofs.Items.{Given, Item, Name, keep_items, option_word, part_items}
 use Rattle.dim_words.proofs.Walks.{given_kept, name_kept, names_of, then_is}
+use Rattle.dim_words.proofs.WordPlaces.{named, placed_is, set_in, set_names, unset_is}
 use Rattle.dim_words.proofs.Level.{given_of}
 
 -- ---- settings
 
-abbrev pub field : Setting → Parted → Option ℕ
-field Fuel p = p.fuel
-field Quantum p = p.quantum
-field Depth p = p.depth
-field Seed p = p.seed
-field Workers p = p.workers
-
 -- the settings set are those that were met
 abbrev pub Agree : Parted → Seen → Type 0
-Agree p seen = (t : Setting) → has_seen t seen ≡ is_some (field t p)
+Agree p seen = (t : Setting) → has_seen t seen ≡ is_some (given_in t p)
 
 -- a setting's value: the one set, or the one given later
 abbrev pub late : Option ℕ → Setting → List Item → Option (Option ℕ)
 late (Some n) t is = Some (Some n)
 late None t is = given_value t (given_of t is)
 
-abbrev pub made : Option (Option ℕ) → Option (Option ℕ) → Option (Option ℕ) → Option (Option ℕ) → Option (Option ℕ) → List Text → Option Parted
-made a b c d e names =
-    option_and_then (λ fuel. option_and_then (λ quantum. option_and_then (λ depth. option_and_then (λ seed. option_and_then (λ workers.
-    let p : Parted = record { names = names; fuel = fuel; quantum = quantum; depth = depth; seed = seed; workers = workers } in Some p)
-    e) d) c) b) a
+-- the values of all settings, where each has one that is right or none
+abbrev pub made : (Setting → Option (Option ℕ)) → List Text → Option Parted
+made f names =
+    option_and_then (λ fuel. option_and_then (λ quantum. option_and_then (λ depth. option_and_then (λ seed. option_and_then (λ workers. option_and_then (λ attempts.
+    let p : Parted = record { names = names; fuel = fuel; quantum = quantum; depth = depth; seed = seed; workers = workers; attempts = attempts } in Some p)
+    (f Attempts)) (f Workers)) (f Seed)) (f Depth)) (f Quantum)) (f Fuel)
 
 abbrev pub merged : Parted → List Item → Option Parted
-merged p is = made (late p.fuel Fuel is) (late p.quantum Quantum is) (late p.depth Depth is) (late p.seed Seed is) (late p.workers Workers is) (p.names ++ names_of is)
+merged p is = made (λ t. late (given_in t p) t is) (p.names ++ names_of is)
+
+here : {X Y : Type 0} (o : Option X) (f : X → Option Y) → o ≡ None → option_and_then f o ≡ None
+here o f none = ap (option_and_then f) none
+
+behind : {X Y : Type 0} (o : Option X) (f : X → Option Y) → ((x : X) → f x ≡ None) → option_and_then f o ≡ None
+behind None f none = refl
+behind (Some x) f none = none x
+
+-- a wrong value of one setting
+none_made : (f : Setting → Option (Option ℕ)) (names : List Text) (t : Setting) → f t ≡ None → made f names ≡ None
+none_made f names Fuel none = here (f Fuel) _ none
+none_made f names Quantum none = behind (f Fuel) _ (λ a. here (f Quantum) _ none)
+none_made f names Depth none = behind (f Fuel) _ (λ a. behind (f Quantum) _ (λ b. here (f Depth) _ none))
+none_made f names Seed none = behind (f Fuel) _ (λ a. behind (f Quantum) _ (λ b. behind (f Depth) _ (λ c. here (f Seed) _ none)))
+none_made f names Workers none =
+    behind (f Fuel) _ (λ a. behind (f Quantum) _ (λ b. behind (f Depth) _ (λ c. behind (f Seed) _ (λ d. here (f Workers) _ none))))
+none_made f names Attempts none =
+    behind (f Fuel) _ (λ a. behind (f Quantum) _ (λ b. behind (f Depth) _ (λ c. behind (f Seed) _ (λ d. behind (f Workers) _ (λ e. here (f Attempts) _ none)))))
 
 late_end : (o : Option ℕ) (t : Setting) → late o t [] ≡ Some o
 late_end (Some n) t = refl
 late_end None t = refl
 
-none_fuel : (b c d e : Option (Option ℕ)) (names : List Text) → made None b c d e names ≡ None
-none_fuel b c d e names = refl
-
-none_quantum : (a c d e : Option (Option ℕ)) (names : List Text) → made a None c d e names ≡ None
-none_quantum None c d e names = refl
-none_quantum (Some a) c d e names = refl
-
-none_depth : (a b d e : Option (Option ℕ)) (names : List Text) → made a b None d e names ≡ None
-none_depth None b d e names = refl
-none_depth (Some a) None d e names = refl
-none_depth (Some a) (Some b) d e names = refl
-
-none_seed : (a b c e : Option (Option ℕ)) (names : List Text) → made a b c None e names ≡ None
-none_seed None b c e names = refl
-none_seed (Some a) None c e names = refl
-none_seed (Some a) (Some b) None e names = refl
-none_seed (Some a) (Some b) (Some c) e names = refl
-
-none_workers : (a b c d : Option (Option ℕ)) (names : List Text) → made a b c d None names ≡ None
-none_workers None b c d names = refl
-none_workers (Some a) None c d names = refl
-none_workers (Some a) (Some b) None d names = refl
-none_workers (Some a) (Some b) (Some c) None names = refl
-none_workers (Some a) (Some b) (Some c) (Some d) names = refl
-
 late_skip : (o : Option ℕ) (t : Setting) (i : Item) (is : List Item) → given_of t (i ∷ is) ≡ given_of t is → late o t (i ∷ is) ≡ late o t is
 late_skip (Some n) t i is e = refl
 late_skip None t i is e = ap (given_value t) e
+
+-- the value that stands here
+late_here : (t : Setting) (v : Text) (is : List Item) (o : Option ℕ) → o ≡ None → given_of t (Given t v ∷ is) ≡ Some v → late o t (Given t v ∷ is) ≡ option_map (λ n. Some n) (value_of t v)
+late_here t v is o none first = ap (λ x. late x t (Given t v ∷ is)) none ∙ ap (given_value t) first
+
+given_first : (t : Setting) (v : Text) (is : List Item) → given_of t (Given t v ∷ is) ≡ Some v
+given_first Fuel v is = refl
+given_first Quantum v is = refl
+given_first Depth v is = refl
+given_first Seed v is = refl
+given_first Workers v is = refl
+given_first Attempts v is = refl
+
+-- a value that is set once its option is met is the one given later before
+late_set : (s t : Setting) (n : ℕ) (v : Text) (is : List Item) (p : Parted) → late (given_in s p) s (Given s v ∷ is) ≡ Some (Some n)
+    → late (given_in t (set_in s n p)) t is ≡ late (given_in t p) t (Given s v ∷ is)
+late_set Fuel Fuel n v is p first = sym first
+late_set Quantum Quantum n v is p first = sym first
+late_set Depth Depth n v is p first = sym first
+late_set Seed Seed n v is p first = sym first
+late_set Workers Workers n v is p first = sym first
+late_set Attempts Attempts n v is p first = sym first
+late_set s t n v is p first = sym (late_skip (given_in t p) t (Given s v) is refl)
 
 pub no_field : (o : Option ℕ) (b : Bool) → b ≡ false → b ≡ is_some o → o ≡ None
 no_field None b e h = refl
 no_field (Some n) b e h = absurd (true≢false (sym h ∙ e))
 
-pub agree_set : (t : Setting) (n : ℕ) (p q : Parted) (seen : Seen) → placed t n p ≡ Some q → Agree p seen → field t p ≡ None → Agree q (mark t seen)
-agree_set Fuel n p q seen e h none = subst (λ x. Agree x (mark Fuel seen)) (ap (λ o. unwrap_or o p) (sym (ap (λ o. unset o (record p { fuel = Some n })) none) ∙ e)) (λ u. go u)
-  where
-    go : (u : Setting) → has_seen u (mark Fuel seen) ≡ is_some (field u (record p { fuel = Some n }))
-    go Fuel = refl
-    go Quantum = h Quantum
-    go Depth = h Depth
-    go Seed = h Seed
-    go Workers = h Workers
-agree_set Quantum n p q seen e h none = subst (λ x. Agree x (mark Quantum seen)) (ap (λ o. unwrap_or o p) (sym (ap (λ o. unset o (record p { quantum = Some n })) none) ∙ e)) (λ u. go u)
-  where
-    go : (u : Setting) → has_seen u (mark Quantum seen) ≡ is_some (field u (record p { quantum = Some n }))
-    go Fuel = h Fuel
-    go Quantum = refl
-    go Depth = h Depth
-    go Seed = h Seed
-    go Workers = h Workers
-agree_set Depth n p q seen e h none = subst (λ x. Agree x (mark Depth seen)) (ap (λ o. unwrap_or o p) (sym (ap (λ o. unset o (record p { depth = Some n })) none) ∙ e)) (λ u. go u)
-  where
-    go : (u : Setting) → has_seen u (mark Depth seen) ≡ is_some (field u (record p { depth = Some n }))
-    go Fuel = h Fuel
-    go Quantum = h Quantum
-    go Depth = refl
-    go Seed = h Seed
-    go Workers = h Workers
-agree_set Seed n p q seen e h none = subst (λ x. Agree x (mark Seed seen)) (ap (λ o. unwrap_or o p) (sym (ap (λ o. unset o (record p { seed = Some n })) none) ∙ e)) (λ u. go u)
-  where
-    go : (u : Setting) → has_seen u (mark Seed seen) ≡ is_some (field u (record p { seed = Some n }))
-    go Fuel = h Fuel
-    go Quantum = h Quantum
-    go Depth = h Depth
-    go Seed = refl
-    go Workers = h Workers
-agree_set Workers n p q seen e h none = subst (λ x. Agree x (mark Workers seen)) (ap (λ o. unwrap_or o p) (sym (ap (λ o. unset o (record p { workers = Some n })) none) ∙ e)) (λ u. go u)
-  where
-    go : (u : Setting) → has_seen u (mark Workers seen) ≡ is_some (field u (record p { workers = Some n }))
-    go Fuel = h Fuel
-    go Quantum = h Quantum
-    go Depth = h Depth
-    go Seed = h Seed
-    go Workers = refl
+marked_too : (s t : Setting) (n : ℕ) (p : Parted) (seen : Seen) → has_seen t seen ≡ is_some (given_in t p) → has_seen t (mark s seen) ≡ is_some (given_in t (set_in s n p))
+marked_too Fuel Fuel n p seen h = refl
+marked_too Quantum Quantum n p seen h = refl
+marked_too Depth Depth n p seen h = refl
+marked_too Seed Seed n p seen h = refl
+marked_too Workers Workers n p seen h = refl
+marked_too Attempts Attempts n p seen h = refl
+marked_too s t n p seen h = h
+
+pub agree_name : (w : Text) (p : Parted) (seen : Seen) → Agree p seen → Agree (with_name w p) seen
+agree_name w p seen agree = λ t. agree t ∙ ap is_some (sym (named w p t))
+
+pub agree_set : (t : Setting) (n : ℕ) (p q : Parted) (seen : Seen) → placed t n p ≡ Some q → Agree p seen → Agree q (mark t seen)
+agree_set t n p q seen e agree =
+    subst (λ x. Agree x (mark t seen)) (unset_is (given_in t p) (set_in t n p) q (sym (placed_is t n p) ∙ e)).1 (λ u. marked_too t u n p seen (agree u))
 
 pub merges : (is : List Item) (p : Parted) (k e : Kept) → keep_items k is ≡ Some e → Agree p k.seen → part_items p is ≡ merged p is
-merges [] p k e all agree =
-    let step : (a b : List Text) → a ≡ b → made (late p.fuel Fuel []) (late p.quantum Quantum []) (late p.depth Depth []) (late p.seed Seed []) (late p.workers Workers []) a ≡ made (late p.fuel Fuel []) (late p.quantum Quantum []) (late p.depth Depth []) (late p.seed Seed []) (late p.workers Workers []) b =
-    λ a b same. ap (λ ns. made (late p.fuel Fuel []) (late p.quantum Quantum []) (late p.depth Depth []) (late p.seed Seed []) (late p.workers Workers []) ns) same in
-    sym (step (p.names ++ []) p.names (append-nil p.names) ∙ (λ i. made (late_end p.fuel Fuel i) (late_end p.quantum Quantum i) (late_end p.depth Depth i) (late_end p.seed Seed i) (late_end p.workers Workers i) p.names))
+merges [] p k e all agree = sym (λ i. made (λ t. late_end (given_in t p) t i) (append-nil p.names i))
 merges (Name w ∷ is) p k e all agree =
     let m = then_is (keep_name w k) (λ q. keep_items q is) e all in
-    merges is (with_name w p) m.0 e m.2 (λ t. ap (has_seen t) (name_kept w k m.0 m.1).seen ∙ agree_name t)
-    ∙ ap (λ ns. made (late p.fuel Fuel is) (late p.quantum Quantum is) (late p.depth Depth is) (late p.seed Seed is) (late p.workers Workers is) ns) (append_assoc p.names (w ∷ []) (names_of is))
-    ∙ sym (λ i. made (late_skip p.fuel Fuel (Name w) is refl i) (late_skip p.quantum Quantum (Name w) is refl i) (late_skip p.depth Depth (Name w) is refl i) (late_skip p.seed Seed (Name w) is refl i) (late_skip p.workers Workers (Name w) is refl i) (p.names ++ names_of (Name w ∷ is)))
+    merges is (with_name w p) m.0 e m.2 (subst (Agree (with_name w p)) (sym (name_kept w k m.0 m.1).seen) (agree_name w p k.seen agree))
+    ∙ (λ i. made (λ t. late (named w p t i) t is) (append_assoc p.names (w ∷ []) (names_of is) i))
+    ∙ sym (λ i. made (λ t. late_skip (given_in t p) t (Name w) is refl i) (p.names ++ names_of (Name w ∷ is)))
+merges (Given s v ∷ is) p k e all agree =
+    let m = then_is (keep_given s (option_word s) v k) (λ q. keep_items q is) e all in
+    let g = given_kept s v k m.0 m.1 in
+    let none : given_in s p ≡ None = no_field (given_in s p) (has_seen s k.seen) g.unseen (agree s) in
+    let first : late (given_in s p) s (Given s v ∷ is) ≡ option_map (λ n. Some n) (value_of s v) = late_here s v is (given_in s p) none (given_first s v is) in
+    go none first (λ n. merges is (set_in s n p) m.0 e m.2 (λ t. ap (has_seen t) g.seen ∙ marked_too s t n p k.seen (agree t))) (value_of s v) refl
   where
-    agree_name : (t : Setting) → has_seen t k.seen ≡ is_some (field t (with_name w p))
-    agree_name Fuel = agree Fuel
-    agree_name Quantum = agree Quantum
-    agree_name Depth = agree Depth
-    agree_name Seed = agree Seed
-    agree_name Workers = agree Workers
-merges (Given Fuel v ∷ is) p k e all agree =
-    let m = then_is (keep_given Fuel (option_word Fuel) v k) (λ q. keep_items q is) e all in
-    let g = given_kept Fuel v k m.0 m.1 in
-    let none : p.fuel ≡ None = no_field p.fuel (has_seen Fuel k.seen) g.unseen (agree Fuel) in
-    go m.0.seen none (λ n agrees. merges is (record p { fuel = Some n }) m.0 e m.2 agrees) (λ n t. ap (has_seen t) g.seen ∙ agree_set Fuel n p (record p { fuel = Some n }) k.seen (ap (λ o. unset o (record p { fuel = Some n })) none) agree none t) (value_of Fuel v) refl
-  where
-    go : (after : Seen) → p.fuel ≡ None → ((n : ℕ) → Agree (record p { fuel = Some n }) after → part_items (record p { fuel = Some n }) is ≡ merged (record p { fuel = Some n }) is) → ((n : ℕ) → Agree (record p { fuel = Some n }) after) → (o : Option ℕ) → value_of Fuel v ≡ o
-        → option_and_then (λ q. part_items q is) (option_and_then (λ n. placed Fuel n p) (value_of Fuel v)) ≡ merged p (Given Fuel v ∷ is)
-    go after none ih agrees None is_none = ap (λ o. option_and_then (λ q. part_items q is) (option_and_then (λ n. placed Fuel n p) o)) is_none
-        ∙ sym ((λ i. made (late p.fuel Fuel (Given Fuel v ∷ is)) (late_skip p.quantum Quantum (Given Fuel v) is refl i) (late_skip p.depth Depth (Given Fuel v) is refl i) (late_skip p.seed Seed (Given Fuel v) is refl i) (late_skip p.workers Workers (Given Fuel v) is refl i) (p.names ++ names_of is))
-        ∙ ap (λ o. made (late o Fuel (Given Fuel v ∷ is)) (late p.quantum Quantum is) (late p.depth Depth is) (late p.seed Seed is) (late p.workers Workers is) (p.names ++ names_of is)) none
-        ∙ ap (λ o. made (option_map (λ n. Some n) o) (late p.quantum Quantum is) (late p.depth Depth is) (late p.seed Seed is) (late p.workers Workers is) (p.names ++ names_of is)) is_none
-        ∙ none_fuel (late p.quantum Quantum is) (late p.depth Depth is) (late p.seed Seed is) (late p.workers Workers is) (p.names ++ names_of is))
-    go after none ih agrees (Some n) is_some_n = ap (λ o. option_and_then (λ q. part_items q is) (option_and_then (λ n. placed Fuel n p) o)) is_some_n
-        ∙ ap (λ o. option_and_then (λ q. part_items q is) (unset o (record p { fuel = Some n }))) none ∙ ih n (agrees n)
-        ∙ sym ((λ i. made (late p.fuel Fuel (Given Fuel v ∷ is)) (late_skip p.quantum Quantum (Given Fuel v) is refl i) (late_skip p.depth Depth (Given Fuel v) is refl i) (late_skip p.seed Seed (Given Fuel v) is refl i) (late_skip p.workers Workers (Given Fuel v) is refl i) (p.names ++ names_of is))
-        ∙ ap (λ o. made (late o Fuel (Given Fuel v ∷ is)) (late p.quantum Quantum is) (late p.depth Depth is) (late p.seed Seed is) (late p.workers Workers is) (p.names ++ names_of is)) none
-        ∙ ap (λ o. made (option_map (λ n. Some n) o) (late p.quantum Quantum is) (late p.depth Depth is) (late p.seed Seed is) (late p.workers Workers is) (p.names ++ names_of is)) is_some_n)
-merges (Given Quantum v ∷ is) p k e all agree =
-    let m = then_is (keep_given Quantum (option_word Quantum) v k) (λ q. keep_items q is) e all in
-    let g = given_kept Quantum v k m.0 m.1 in
-    let none : p.quantum ≡ None = no_field p.quantum (has_seen Quantum k.seen) g.unseen (agree Quantum) in
-    go m.0.seen none (λ n agrees. merges is (record p { quantum = Some n }) m.0 e m.2 agrees) (λ n t. ap (has_seen t) g.seen ∙ agree_set Quantum n p (record p { quantum = Some n }) k.seen (ap (λ o. unset o (record p { quantum = Some n })) none) agree none t) (value_of Quantum v) refl
-  where
-    go : (after : Seen) → p.quantum ≡ None → ((n : ℕ) → Agree (record p { quantum = Some n }) after → part_items (record p { quantum = Some n }) is ≡ merged (record p { quantum = Some n }) is) → ((n : ℕ) → Agree (record p { quantum = Some n }) after) → (o : Option ℕ) → value_of Quantum v ≡ o
-        → option_and_then (λ q. part_items q is) (option_and_then (λ n. placed Quantum n p) (value_of Quantum v)) ≡ merged p (Given Quantum v ∷ is)
-    go after none ih agrees None is_none = ap (λ o. option_and_then (λ q. part_items q is) (option_and_then (λ n. placed Quantum n p) o)) is_none
-        ∙ sym ((λ i. made (late_skip p.fuel Fuel (Given Quantum v) is refl i) (late p.quantum Quantum (Given Quantum v ∷ is)) (late_skip p.depth Depth (Given Quantum v) is refl i) (late_skip p.seed Seed (Given Quantum v) is refl i) (late_skip p.workers Workers (Given Quantum v) is refl i) (p.names ++ names_of is))
-        ∙ ap (λ o. made (late p.fuel Fuel is) (late o Quantum (Given Quantum v ∷ is)) (late p.depth Depth is) (late p.seed Seed is) (late p.workers Workers is) (p.names ++ names_of is)) none
-        ∙ ap (λ o. made (late p.fuel Fuel is) (option_map (λ n. Some n) o) (late p.depth Depth is) (late p.seed Seed is) (late p.workers Workers is) (p.names ++ names_of is)) is_none
-        ∙ none_quantum (late p.fuel Fuel is) (late p.depth Depth is) (late p.seed Seed is) (late p.workers Workers is) (p.names ++ names_of is))
-    go after none ih agrees (Some n) is_some_n = ap (λ o. option_and_then (λ q. part_items q is) (option_and_then (λ n. placed Quantum n p) o)) is_some_n
-        ∙ ap (λ o. option_and_then (λ q. part_items q is) (unset o (record p { quantum = Some n }))) none ∙ ih n (agrees n)
-        ∙ sym ((λ i. made (late_skip p.fuel Fuel (Given Quantum v) is refl i) (late p.quantum Quantum (Given Quantum v ∷ is)) (late_skip p.depth Depth (Given Quantum v) is refl i) (late_skip p.seed Seed (Given Quantum v) is refl i) (late_skip p.workers Workers (Given Quantum v) is refl i) (p.names ++ names_of is))
-        ∙ ap (λ o. made (late p.fuel Fuel is) (late o Quantum (Given Quantum v ∷ is)) (late p.depth Depth is) (late p.seed Seed is) (late p.workers Workers is) (p.names ++ names_of is)) none
-        ∙ ap (λ o. made (late p.fuel Fuel is) (option_map (λ n. Some n) o) (late p.depth Depth is) (late p.seed Seed is) (late p.workers Workers is) (p.names ++ names_of is)) is_some_n)
-merges (Given Depth v ∷ is) p k e all agree =
-    let m = then_is (keep_given Depth (option_word Depth) v k) (λ q. keep_items q is) e all in
-    let g = given_kept Depth v k m.0 m.1 in
-    let none : p.depth ≡ None = no_field p.depth (has_seen Depth k.seen) g.unseen (agree Depth) in
-    go m.0.seen none (λ n agrees. merges is (record p { depth = Some n }) m.0 e m.2 agrees) (λ n t. ap (has_seen t) g.seen ∙ agree_set Depth n p (record p { depth = Some n }) k.seen (ap (λ o. unset o (record p { depth = Some n })) none) agree none t) (value_of Depth v) refl
-  where
-    go : (after : Seen) → p.depth ≡ None → ((n : ℕ) → Agree (record p { depth = Some n }) after → part_items (record p { depth = Some n }) is ≡ merged (record p { depth = Some n }) is) → ((n : ℕ) → Agree (record p { depth = Some n }) after) → (o : Option ℕ) → value_of Depth v ≡ o
-        → option_and_then (λ q. part_items q is) (option_and_then (λ n. placed Depth n p) (value_of Depth v)) ≡ merged p (Given Depth v ∷ is)
-    go after none ih agrees None is_none = ap (λ o. option_and_then (λ q. part_items q is) (option_and_then (λ n. placed Depth n p) o)) is_none
-        ∙ sym ((λ i. made (late_skip p.fuel Fuel (Given Depth v) is refl i) (late_skip p.quantum Quantum (Given Depth v) is refl i) (late p.depth Depth (Given Depth v ∷ is)) (late_skip p.seed Seed (Given Depth v) is refl i) (late_skip p.workers Workers (Given Depth v) is refl i) (p.names ++ names_of is))
-        ∙ ap (λ o. made (late p.fuel Fuel is) (late p.quantum Quantum is) (late o Depth (Given Depth v ∷ is)) (late p.seed Seed is) (late p.workers Workers is) (p.names ++ names_of is)) none
-        ∙ ap (λ o. made (late p.fuel Fuel is) (late p.quantum Quantum is) (option_map (λ n. Some n) o) (late p.seed Seed is) (late p.workers Workers is) (p.names ++ names_of is)) is_none
-        ∙ none_depth (late p.fuel Fuel is) (late p.quantum Quantum is) (late p.seed Seed is) (late p.workers Workers is) (p.names ++ names_of is))
-    go after none ih agrees (Some n) is_some_n = ap (λ o. option_and_then (λ q. part_items q is) (option_and_then (λ n. placed Depth n p) o)) is_some_n
-        ∙ ap (λ o. option_and_then (λ q. part_items q is) (unset o (record p { depth = Some n }))) none ∙ ih n (agrees n)
-        ∙ sym ((λ i. made (late_skip p.fuel Fuel (Given Depth v) is refl i) (late_skip p.quantum Quantum (Given Depth v) is refl i) (late p.depth Depth (Given Depth v ∷ is)) (late_skip p.seed Seed (Given Depth v) is refl i) (late_skip p.workers Workers (Given Depth v) is refl i) (p.names ++ names_of is))
-        ∙ ap (λ o. made (late p.fuel Fuel is) (late p.quantum Quantum is) (late o Depth (Given Depth v ∷ is)) (late p.seed Seed is) (late p.workers Workers is) (p.names ++ names_of is)) none
-        ∙ ap (λ o. made (late p.fuel Fuel is) (late p.quantum Quantum is) (option_map (λ n. Some n) o) (late p.seed Seed is) (late p.workers Workers is) (p.names ++ names_of is)) is_some_n)
-merges (Given Seed v ∷ is) p k e all agree =
-    let m = then_is (keep_given Seed (option_word Seed) v k) (λ q. keep_items q is) e all in
-    let g = given_kept Seed v k m.0 m.1 in
-    let none : p.seed ≡ None = no_field p.seed (has_seen Seed k.seen) g.unseen (agree Seed) in
-    go m.0.seen none (λ n agrees. merges is (record p { seed = Some n }) m.0 e m.2 agrees) (λ n t. ap (has_seen t) g.seen ∙ agree_set Seed n p (record p { seed = Some n }) k.seen (ap (λ o. unset o (record p { seed = Some n })) none) agree none t) (value_of Seed v) refl
-  where
-    go : (after : Seen) → p.seed ≡ None → ((n : ℕ) → Agree (record p { seed = Some n }) after → part_items (record p { seed = Some n }) is ≡ merged (record p { seed = Some n }) is) → ((n : ℕ) → Agree (record p { seed = Some n }) after) → (o : Option ℕ) → value_of Seed v ≡ o
-        → option_and_then (λ q. part_items q is) (option_and_then (λ n. placed Seed n p) (value_of Seed v)) ≡ merged p (Given Seed v ∷ is)
-    go after none ih agrees None is_none = ap (λ o. option_and_then (λ q. part_items q is) (option_and_then (λ n. placed Seed n p) o)) is_none
-        ∙ sym ((λ i. made (late_skip p.fuel Fuel (Given Seed v) is refl i) (late_skip p.quantum Quantum (Given Seed v) is refl i) (late_skip p.depth Depth (Given Seed v) is refl i) (late p.seed Seed (Given Seed v ∷ is)) (late_skip p.workers Workers (Given Seed v) is refl i) (p.names ++ names_of is))
-        ∙ ap (λ o. made (late p.fuel Fuel is) (late p.quantum Quantum is) (late p.depth Depth is) (late o Seed (Given Seed v ∷ is)) (late p.workers Workers is) (p.names ++ names_of is)) none
-        ∙ ap (λ o. made (late p.fuel Fuel is) (late p.quantum Quantum is) (late p.depth Depth is) (option_map (λ n. Some n) o) (late p.workers Workers is) (p.names ++ names_of is)) is_none
-        ∙ none_seed (late p.fuel Fuel is) (late p.quantum Quantum is) (late p.depth Depth is) (late p.workers Workers is) (p.names ++ names_of is))
-    go after none ih agrees (Some n) is_some_n = ap (λ o. option_and_then (λ q. part_items q is) (option_and_then (λ n. placed Seed n p) o)) is_some_n
-        ∙ ap (λ o. option_and_then (λ q. part_items q is) (unset o (record p { seed = Some n }))) none ∙ ih n (agrees n)
-        ∙ sym ((λ i. made (late_skip p.fuel Fuel (Given Seed v) is refl i) (late_skip p.quantum Quantum (Given Seed v) is refl i) (late_skip p.depth Depth (Given Seed v) is refl i) (late p.seed Seed (Given Seed v ∷ is)) (late_skip p.workers Workers (Given Seed v) is refl i) (p.names ++ names_of is))
-        ∙ ap (λ o. made (late p.fuel Fuel is) (late p.quantum Quantum is) (late p.depth Depth is) (late o Seed (Given Seed v ∷ is)) (late p.workers Workers is) (p.names ++ names_of is)) none
-        ∙ ap (λ o. made (late p.fuel Fuel is) (late p.quantum Quantum is) (late p.depth Depth is) (option_map (λ n. Some n) o) (late p.workers Workers is) (p.names ++ names_of is)) is_some_n)
-merges (Given Workers v ∷ is) p k e all agree =
-    let m = then_is (keep_given Workers (option_word Workers) v k) (λ q. keep_items q is) e all in
-    let g = given_kept Workers v k m.0 m.1 in
-    let none : p.workers ≡ None = no_field p.workers (has_seen Workers k.seen) g.unseen (agree Workers) in
-    go m.0.seen none (λ n agrees. merges is (record p { workers = Some n }) m.0 e m.2 agrees) (λ n t. ap (has_seen t) g.seen ∙ agree_set Workers n p (record p { workers = Some n }) k.seen (ap (λ o. unset o (record p { workers = Some n })) none) agree none t) (value_of Workers v) refl
-  where
-    go : (after : Seen) → p.workers ≡ None → ((n : ℕ) → Agree (record p { workers = Some n }) after → part_items (record p { workers = Some n }) is ≡ merged (record p { workers = Some n }) is) → ((n : ℕ) → Agree (record p { workers = Some n }) after) → (o : Option ℕ) → value_of Workers v ≡ o
-        → option_and_then (λ q. part_items q is) (option_and_then (λ n. placed Workers n p) (value_of Workers v)) ≡ merged p (Given Workers v ∷ is)
-    go after none ih agrees None is_none = ap (λ o. option_and_then (λ q. part_items q is) (option_and_then (λ n. placed Workers n p) o)) is_none
-        ∙ sym ((λ i. made (late_skip p.fuel Fuel (Given Workers v) is refl i) (late_skip p.quantum Quantum (Given Workers v) is refl i) (late_skip p.depth Depth (Given Workers v) is refl i) (late_skip p.seed Seed (Given Workers v) is refl i) (late p.workers Workers (Given Workers v ∷ is)) (p.names ++ names_of is))
-        ∙ ap (λ o. made (late p.fuel Fuel is) (late p.quantum Quantum is) (late p.depth Depth is) (late p.seed Seed is) (late o Workers (Given Workers v ∷ is)) (p.names ++ names_of is)) none
-        ∙ ap (λ o. made (late p.fuel Fuel is) (late p.quantum Quantum is) (late p.depth Depth is) (late p.seed Seed is) (option_map (λ n. Some n) o) (p.names ++ names_of is)) is_none
-        ∙ none_workers (late p.fuel Fuel is) (late p.quantum Quantum is) (late p.depth Depth is) (late p.seed Seed is) (p.names ++ names_of is))
-    go after none ih agrees (Some n) is_some_n = ap (λ o. option_and_then (λ q. part_items q is) (option_and_then (λ n. placed Workers n p) o)) is_some_n
-        ∙ ap (λ o. option_and_then (λ q. part_items q is) (unset o (record p { workers = Some n }))) none ∙ ih n (agrees n)
-        ∙ sym ((λ i. made (late_skip p.fuel Fuel (Given Workers v) is refl i) (late_skip p.quantum Quantum (Given Workers v) is refl i) (late_skip p.depth Depth (Given Workers v) is refl i) (late_skip p.seed Seed (Given Workers v) is refl i) (late p.workers Workers (Given Workers v ∷ is)) (p.names ++ names_of is))
-        ∙ ap (λ o. made (late p.fuel Fuel is) (late p.quantum Quantum is) (late p.depth Depth is) (late p.seed Seed is) (late o Workers (Given Workers v ∷ is)) (p.names ++ names_of is)) none
-        ∙ ap (λ o. made (late p.fuel Fuel is) (late p.quantum Quantum is) (late p.depth Depth is) (late p.seed Seed is) (option_map (λ n. Some n) o) (p.names ++ names_of is)) is_some_n)
+    go : given_in s p ≡ None → late (given_in s p) s (Given s v ∷ is) ≡ option_map (λ n. Some n) (value_of s v) → ((n : ℕ) → part_items (set_in s n p) is ≡ merged (set_in s n p) is)
+        → (o : Option ℕ) → value_of s v ≡ o → option_and_then (λ q. part_items q is) (option_and_then (λ n. placed s n p) o) ≡ merged p (Given s v ∷ is)
+    go none first ih None at = sym (none_made (λ t. late (given_in t p) t (Given s v ∷ is)) (p.names ++ names_of is) s (first ∙ ap (option_map (λ n. Some n)) at))
+    go none first ih (Some n) at =
+        ap (option_and_then (λ q. part_items q is)) (placed_is s n p ∙ ap (λ o. unset o (set_in s n p)) none) ∙ ih n
+        ∙ (λ i. made (λ t. late_set s t n v is p (first ∙ ap (option_map (λ n. Some n)) at) i) (set_names s n p i ++ names_of is))

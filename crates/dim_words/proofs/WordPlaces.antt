@@ -4,7 +4,7 @@ use Rattle.std.specs.Prelude.{slice_get, is_some, MatchOption}
 use Rattle.std.proofs.lemmas.List.{append_assoc, append-nil}
 use Rattle.dim_words.specs.declared.kind.Kind.{Kind}
 use Rattle.dim_words.specs.declared.kind.Setting.{Setting}
-use Rattle.dim_words.specs.declared.kind.Setting.TheVariants.{Fuel, Quantum, Depth, Seed, Workers}
+use Rattle.dim_words.specs.declared.kind.Setting.TheVariants.{Fuel, Quantum, Depth, Seed, Workers, Attempts}
 use Rattle.dim_words.specs.Words.{Parted, by_setting, nothing, parted, parted_after, placed, setting_in, unset, value_of, with_name, with_value}
 use Rattle.dim_words.specs.Places.{option_at, is_value, one, name_at, names_among, given_in, IsGiven, IsParting, HasNoValue, IsUnparted, PartingLaw}
 
@@ -76,37 +76,40 @@ module _ (k : Kind) (word value : List ℕ) (words : List (List ℕ)) (s : Setti
 
 -- ---- one value more
 
-named : (w : List ℕ) (p : Parted) (s : Setting) → given_in s (with_name w p) ≡ given_in s p
+pub named : (w : List ℕ) (p : Parted) (s : Setting) → given_in s (with_name w p) ≡ given_in s p
 named w p Fuel = refl
 named w p Quantum = refl
 named w p Depth = refl
 named w p Seed = refl
 named w p Workers = refl
+named w p Attempts = refl
 
 -- p with a value n for s, which is the only change
-record Sets (s : Setting) (n : ℕ) (p r : Parted) : Type 0 where
+pub record Sets (s : Setting) (n : ℕ) (p r : Parted) : Type 0 where
   pub unset : given_in s p ≡ None
   pub given : given_in s r ≡ Some n
   pub others : (t : Setting) → (t ≡ s) ⊎ (given_in t r ≡ given_in t p)
   pub names : r.names ≡ p.names
 
-unset_is : (o : Option ℕ) (x r : Parted) → unset o x ≡ Some r → (o ≡ None) × (x ≡ r)
+pub unset_is : (o : Option ℕ) (x r : Parted) → unset o x ≡ Some r → (o ≡ None) × (x ≡ r)
 unset_is None x r e = (refl, let it : x ≡ r = cc in it)
 unset_is (Some n) x r e = absurd (cc)
 
-abbrev set_in : Setting → ℕ → Parted → Parted
+abbrev pub set_in : Setting → ℕ → Parted → Parted
 set_in Fuel n p = record p { fuel = Some n }
 set_in Quantum n p = record p { quantum = Some n }
 set_in Depth n p = record p { depth = Some n }
 set_in Seed n p = record p { seed = Some n }
 set_in Workers n p = record p { workers = Some n }
+set_in Attempts n p = record p { attempts = Some n }
 
-placed_is : (s : Setting) (n : ℕ) (p : Parted) → placed s n p ≡ unset (given_in s p) (set_in s n p)
+pub placed_is : (s : Setting) (n : ℕ) (p : Parted) → placed s n p ≡ unset (given_in s p) (set_in s n p)
 placed_is Fuel n p = refl
 placed_is Quantum n p = refl
 placed_is Depth n p = refl
 placed_is Seed n p = refl
 placed_is Workers n p = refl
+placed_is Attempts n p = refl
 
 set_given : (s : Setting) (n : ℕ) (p : Parted) → given_in s (set_in s n p) ≡ Some n
 set_given Fuel n p = refl
@@ -114,13 +117,15 @@ set_given Quantum n p = refl
 set_given Depth n p = refl
 set_given Seed n p = refl
 set_given Workers n p = refl
+set_given Attempts n p = refl
 
-set_names : (s : Setting) (n : ℕ) (p : Parted) → (set_in s n p).names ≡ p.names
+pub set_names : (s : Setting) (n : ℕ) (p : Parted) → (set_in s n p).names ≡ p.names
 set_names Fuel n p = refl
 set_names Quantum n p = refl
 set_names Depth n p = refl
 set_names Seed n p = refl
 set_names Workers n p = refl
+set_names Attempts n p = refl
 
 set_others : (s : Setting) (n : ℕ) (p : Parted) (t : Setting) → (t ≡ s) ⊎ (given_in t (set_in s n p) ≡ given_in t p)
 set_others Fuel n p Fuel = inl refl
@@ -128,9 +133,10 @@ set_others Quantum n p Quantum = inl refl
 set_others Depth n p Depth = inl refl
 set_others Seed n p Seed = inl refl
 set_others Workers n p Workers = inl refl
+set_others Attempts n p Attempts = inl refl
 set_others s n p t = inr refl
 
-sets : (s : Setting) (n : ℕ) (p r : Parted) → placed s n p ≡ Some r → Sets s n p r
+pub sets : (s : Setting) (n : ℕ) (p r : Parted) → placed s n p ≡ Some r → Sets s n p r
 sets s n p r e =
     let w = unset_is (given_in s p) (set_in s n p) r (sym (placed_is s n p) ∙ e) in
     subst (Sets s n p) w.1 record { unset = w.0; given = set_given s n p; others = set_others s n p; names = set_names s n p }
@@ -330,6 +336,7 @@ none_given Quantum = refl
 none_given Depth = refl
 none_given Seed = refl
 none_given Workers = refl
+none_given Attempts = refl
 
 pub parting_law : PartingLaw
 parting_law k words = go (parted k words) (outcome k nothing words)

@@ -2,7 +2,7 @@
 use Rattle.std.specs.Prelude.{ℕ, List, [], ◌∷◌, ◌++◌, Option, Some, None, option_and_then, option_map}
 use Rattle.clap.specs.Words.{Text}
 use Rattle.dim_words.specs.declared.kind.Setting.{Setting}
-use Rattle.dim_words.specs.declared.kind.Setting.TheVariants.{Fuel, Quantum, Depth, Seed, Workers}
+use Rattle.dim_words.specs.declared.kind.Setting.TheVariants.{Fuel, Quantum, Depth, Seed, Workers, Attempts}
 use Rattle.dim_words.specs.declared.parting.Line.{Line}
 use Rattle.dim_words.specs.Words.{Parted, Asked, value_of, asked_by}
 use Rattle.dim_words.specs.Grammar.{Found}
@@ -32,7 +32,8 @@ taken_with names f = do
   depth ← given_value Depth f.depth
   seed ← given_value Seed f.seed
   workers ← given_value Workers f.workers
-  Some (record { names = names; fuel = fuel; quantum = quantum; depth = depth; seed = seed; workers = workers })
+  attempts ← given_value Attempts f.attempts
+  Some (record { names = names; fuel = fuel; quantum = quantum; depth = depth; seed = seed; workers = workers; attempts = attempts })
 
 abbrev pub taken : Found → Option Parted
 taken f = taken_with (names_from f) f

@@ -2,12 +2,12 @@
 use Rattle.std.specs.Prelude.{◌≡◌, ℕ, zero, suc, ◌==◌, List, [], ◌∷◌, ◌++◌, Option, Some, None, option_and_then, option_map, Bool, true, false, not, ◌&&◌, ◌||◌, if◌then◌else◌, codes}
 use Rattle.dim_words.specs.declared.kind.Kind.{Kind}
 use Rattle.dim_words.specs.declared.kind.Setting.{Setting}
-use Rattle.dim_words.specs.declared.kind.Setting.TheVariants.{Fuel, Quantum, Depth, Seed, Workers}
+use Rattle.dim_words.specs.declared.kind.Setting.TheVariants.{Fuel, Quantum, Depth, Seed, Workers, Attempts}
 use Rattle.dim_words.specs.declared.seen.Seen.{Seen}
 use Rattle.dim_words.specs.Words.{setting_in, kind_word, history_place, is_dash, by_setting}
 
 abbrev pub unmarked : Seen
-unmarked = record { fuel = false; quantum = false; depth = false; seed = false; workers = false }
+unmarked = record { fuel = false; quantum = false; depth = false; seed = false; workers = false; attempts = false }
 
 abbrev pub has_seen : Setting → Seen → Bool
 has_seen Fuel s = s.fuel
@@ -15,6 +15,7 @@ has_seen Quantum s = s.quantum
 has_seen Depth s = s.depth
 has_seen Seed s = s.seed
 has_seen Workers s = s.workers
+has_seen Attempts s = s.attempts
 
 abbrev pub mark : Setting → Seen → Seen
 mark Fuel s = record s { fuel = true }
@@ -22,6 +23,7 @@ mark Quantum s = record s { quantum = true }
 mark Depth s = record s { depth = true }
 mark Seed s = record s { seed = true }
 mark Workers s = record s { workers = true }
+mark Attempts s = record s { attempts = true }
 
 abbrev pub marked : Setting → Seen → Option Seen
 marked s seen = if has_seen s seen then None else Some (mark s seen)

@@ -2,7 +2,7 @@
 use Rattle.std.specs.Prelude.{◌≡◌, ℕ, zero, suc, ◌<◌, List, [], ◌∷◌, ◌++◌, length, slice_get, Option, Some, None, option_and_then, is_some, MatchOption, Bool, false, ◌||◌, ◌⊎◌, if◌then◌else◌}
 use Rattle.dim_words.specs.declared.kind.Kind.{Kind}
 use Rattle.dim_words.specs.declared.kind.Setting.{Setting}
-use Rattle.dim_words.specs.declared.kind.Setting.TheVariants.{Fuel, Quantum, Depth, Seed, Workers}
+use Rattle.dim_words.specs.declared.kind.Setting.TheVariants.{Fuel, Quantum, Depth, Seed, Workers, Attempts}
 use Rattle.dim_words.specs.Words.{Parted, parted, setting_in, value_of}
 
 -- the setting of the option that stands at position i: the word there is an option of the command,
@@ -36,6 +36,7 @@ given_in Quantum p = p.quantum
 given_in Depth p = p.depth
 given_in Seed p = p.seed
 given_in Workers p = p.workers
+given_in Attempts p = p.attempts
 
 -- the word behind position i is this value of the setting
 pub record IsGiven (words : List (List ℕ)) (s : Setting) (i n : ℕ) : Type 0 where

@@ -23,6 +23,7 @@ pub struct Found<'a> {
     pub depth: Option<&'a str>,
     pub seed: Option<&'a str>,
     pub workers: Option<&'a str>,
+    pub attempts: Option<&'a str>,
 }
 
 impl<'a> Model for Found<'a> {
@@ -41,6 +42,7 @@ impl<'a> Model for Found<'a> {
       depth = option_map (λ w. w.now) f.depth;
       seed = option_map (λ w. w.now) f.seed;
       workers = option_map (λ w. w.now) f.workers;
+      attempts = option_map (λ w. w.now) f.attempts;
     } };
 }
 
@@ -57,6 +59,7 @@ fn all_found<'a>(matches: &ArgMatches<'a>) -> Found<'a>
         depth: matches.get_str("depth"),
         seed: matches.get_str("seed"),
         workers: matches.get_str("workers"),
+        attempts: matches.get_str("attempts"),
     }
 }
 

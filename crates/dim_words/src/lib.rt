@@ -10,7 +10,10 @@ pub mod laws;
 mod parting;
 mod seen;
 
-pub use command::{CheckCommand, Command, RunCommand, SwitchCommand, default_settings, is_dash};
+pub use command::{
+    CheckCommand, Command, ImmunizeCommand, PredictCommand, RunCommand, SwitchCommand,
+    default_settings, is_dash,
+};
 pub use kind::Kind;
 pub use parting::{Line, Parting, read_line};
 

@@ -20,6 +20,7 @@ pub struct Parting {
     pub depth: Option<u32>,
     pub seed: Option<u32>,
     pub workers: Option<u32>,
+    pub attempts: Option<u32>,
 }
 
 impl Model for Parting {
@@ -36,9 +37,10 @@ impl Model for Parting {
       depth = p.depth;
       seed = p.seed;
       workers = p.workers;
+      attempts = p.attempts;
     } };
 
-    ghost invariant = { λ p. AreRanged p.fuel p.quantum p.depth p.workers };
+    ghost invariant = { λ p. AreRanged p.fuel p.quantum p.depth p.workers p.attempts };
 }
 
 /// A command's kind, with what it is given.
@@ -92,6 +94,7 @@ fn with_settings(names: Vec<Word>, found: &Found) -> Option<Parting>
         depth: given(Setting::Depth, found.depth)?,
         seed: given(Setting::Seed, found.seed)?,
         workers: given(Setting::Workers, found.workers)?,
+        attempts: given(Setting::Attempts, found.attempts)?,
         names,
     })
 }
