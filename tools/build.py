@@ -4,8 +4,8 @@
 Each crate that the program stands on is made into a library by `rt lib`, once those below it are there, and the program at last by
 `rt run`. One crate at a time is proved in the repository itself, first those with the longest chain of others behind them, with a job for
 each processor. The others are proved in copies of its sources, with half as many and at a lower priority, so that they take the time that
-the first leaves. The copies lie in a folder for what passes and are gone at the end: rt lets one command work in a folder at a time, and takes
-over in one what it has proved in another. How many there are at once goes by the processors and the memory.
+the first leaves. The copies lie in a folder for what passes and are gone at the end: rt lets one command work in a folder at a time, and
+takes over in one what it has proved in another. How many there are at once goes by the processors and the memory.
 
 What is at work is told on standard error, and all that rt says stands in crates/dim/out/build.log."""
 import os
