@@ -1,3 +1,4 @@
+mod Watching
 mod Between
 mod Held
 mod Changes

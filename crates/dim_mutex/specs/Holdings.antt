@@ -1,10 +1,11 @@
 -- What a caller keeps of how it stands.
-use Rattle.std.specs.Prelude.{◌≡◌, ℕ, ◌+◌, ◌<◌, ◌≤◌, Bool, true, false, not, if◌then◌else◌, List, length, slice_index_or, Option, Some, None}
+use Rattle.std.specs.Prelude.{⊤, ◌≡◌, ℕ, ◌+◌, ◌<◌, ◌≤◌, Bool, true, false, not, if◌then◌else◌, List, length, slice_index_or, Option, Some, None}
 use Rattle.dim_base.specs.declared.Lid.{Lid}
 use Rattle.dim_stack.specs.declared.Frame.{Frame}
 use Rattle.dim_rag.specs.declared.entry.Entry.{Entry}
 use Rattle.dim_rag.specs.History.{past, mode, count}
-use Rattle.dim_run.specs.Callers.{Known}
+use Rattle.dim_rag.specs.Tables.{Replay}
+use Rattle.dim_run.specs.Callers.{GoesOn, Known}
 use Rattle.dim_mutex.specs.declared.holdings.Holdings.{Holdings}
 use Rattle.dim_mutex.specs.Standing.{is_running, wanted_at, owed_at}
 
@@ -30,3 +31,8 @@ kept_for false = 0
 pub record IsKept (k : Known) (b : Holdings) : Type 0 where
   pub are : AreHoldings k.number (past k.seen) b
   pub room : b.owed + kept_for b.wants ≤ k.left
+
+-- a history, oldest first, goes on from what a monitor has taken, if there is one
+abbrev pub Watches : Option Replay → List Entry → Type 0
+Watches None h = ⊤
+Watches (Some m) h = GoesOn (past h) (past m.entries)

@@ -2,12 +2,14 @@
 ghost use Rattle.std.specs.Prelude.{◌≡◌, ◌+◌, ◌<◌, ◌≤◌, [], nat_le, Option, Some, None, IfNone, IfSome, IsNone};
 ghost use Rattle.dim_rag.specs.declared.entry.Mode.TheVariants.{Running};
 ghost use Rattle.dim_turn.specs.Passes.{seen_of};
-ghost use Rattle.dim_mutex.specs.Holdings.{IsKept};
+ghost use Rattle.dim_run.specs.Gates.{known};
+ghost use Rattle.dim_mutex.specs.Holdings.{IsKept, Watches};
 ghost use Rattle.dim_mutex.specs.Views.{view_of};
 ghost use Rattle.dim_mutex.specs.Standing.{holds, is_running, mode_of, owed, wanted};
 
 use crate::holdings::Holdings;
 use dim_base::{Lid, Tid};
+use dim_monitor::Monitor;
 use dim_run::Pass;
 use dim_stack::{Frame, Stack};
 use std::marker::Model;
@@ -23,18 +25,21 @@ mod locking;
 pub struct Caller {
     pub(crate) pass: Pass,
     pub(crate) own: Holdings,
+    /// The domain's monitor, which the first caller carries from one `tend` to the next: it has
+    /// taken what the history was when the present turn began.
+    pub(crate) monitor: Option<Monitor>,
 }
 
 impl Model for Caller {
     ghost use Rattle.dim_run.specs.Gates.{known};
     ghost use Rattle.dim_mutex.specs.Views.{CallerView};
-    ghost use Rattle.dim_mutex.specs.Holdings.{IsKept};
+    ghost use Rattle.dim_mutex.specs.Holdings.{IsKept, Watches};
 
     ghost Value = { CallerView };
 
     ghost view = { λ c. record { seat = c.pass.seat; known = known c.pass } };
 
-    ghost invariant = { λ c. IsKept (known c.pass) c.own };
+    ghost invariant = { λ c. IsKept (known c.pass) c.own × Watches c.monitor (known c.pass).seen };
 }
 
 impl Caller {
@@ -50,7 +55,19 @@ impl Caller {
             lock: Lid(0),
             stack: Stack::new(&[Frame { func: 0, at: 0 }]),
         };
-        Caller { pass, own }
+        Caller::seated(pass, own)
+    }
+
+    /// The caller of a pass, with these holdings.
+    pub(crate) fn seated(pass: Pass, own: Holdings) -> Caller
+        requires { IsKept (known pass) own }
+        ensures { result ≡ view_of pass }
+    {
+        Caller {
+            pass,
+            own,
+            monitor: None,
+        }
     }
 
     /// Its pass, once it is done with.
@@ -58,6 +75,22 @@ impl Caller {
         ensures { view_of result ≡ self }
     {
         self.pass
+    }
+
+    /// Takes the monitor from it, if it carries that.
+    pub(crate) fn hand_over(&mut self) -> Option<Monitor>
+        ensures same { self.new ≡ self.old }
+        ensures watches { Watches result self.old.known.seen }
+    {
+        self.monitor.take()
+    }
+
+    /// Gives it the monitor.
+    pub(crate) fn carry(&mut self, monitor: Monitor)
+        requires { Watches (Some monitor) self.old.known.seen }
+        ensures { self.new ≡ self.old }
+    {
+        self.monitor = Some(monitor);
     }
 
     /// What it keeps of how it stands.
