@@ -1,7 +1,7 @@
 -- What a call leaves of a caller that stands so.
-use Rattle.std.proofs.Common.{◌≡◌, ℕ, zero, suc, ◌+◌, ◌-◌, ◌<◌, ◌≤◌, Bool, true, false, eqb, refl, ap, ap₂, sym, ◌∙◌, subst, inl, inr, ◌⊎◌, ◌&&◌, List, [], ◌∷◌, ◌++◌, set, get_or, arith}
-use Rattle.std.specs.Prelude.{Option, Some, None, if◌then◌else◌, nat_lt, not, slice_index_or}
-use Rattle.std.proofs.lemmas.Bool.{ltb-true, ltb-false, le-ltb, false≢true, both_ways, and_from, eq-eqb}
+use Rattle.std.proofs.Common.{◌≡◌, ℕ, ◌+◌, ◌-◌, ◌<◌, ◌≤◌, Bool, true, false, eqb, refl, ap, sym, ◌∙◌, subst, inl, inr, ◌⊎◌, ◌&&◌, List, [], ◌∷◌, ◌++◌, set, get_or, arith}
+use Rattle.std.specs.Prelude.{Option, Some, None, if◌then◌else◌, nat_lt, not}
+use Rattle.std.proofs.lemmas.Bool.{ltb-true, ltb-false, false≢true, and_from, eq-eqb}
 use Rattle.std.proofs.lemmas.Option.{same_Some}
 use Rattle.std.proofs.lemmas.Slice.Eq.{slice_eq-Decides}
 use Rattle.std.specs.Cmp.Lexicographic.{pointwise}
@@ -16,7 +16,7 @@ use Rattle.dim_rag.specs.declared.entry.Entry.TheVariants as entry
 use Rattle.dim_rag.specs.declared.entry.MissWhy.{MissWhy}
 use Rattle.dim_rag.specs.declared.entry.MissWhy.TheVariants as why
 use Rattle.dim_rag.specs.declared.entry.Mode.{Mode}
-use Rattle.dim_rag.specs.declared.entry.Mode.TheVariants.{Running, Allowed, Yielding, Ended}
+use Rattle.dim_rag.specs.declared.entry.Mode.TheVariants.{Running, Allowed, Yielding}
 use Rattle.dim_rag.specs.declared.entry.Named.{Named}
 use Rattle.dim_rag.specs.declared.command.Command.{Command}
 use Rattle.dim_rag.specs.declared.command.Command.TheVariants.{Request, Acquire, Release, Try}
@@ -33,16 +33,16 @@ use Rattle.dim_gate.specs.Gate.{Constants}
 use Rattle.dim_gate.specs.Answer.{answer, MayGive}
 use Rattle.dim_gate.specs.Legal.{Legal}
 use Rattle.dim_gate.proofs.Exports.{fits, in_range}
-use Rattle.dim_run.specs.Callers.{Opening, Known, IsCaller, IsLed, IsAsked, told}
+use Rattle.dim_run.specs.Callers.{Opening, Known, IsCaller, IsAsked, told}
 use Rattle.dim_run.specs.Door.{IsWoken}
 use Rattle.dim_run.specs.Seats.{thread_of}
 use Rattle.dim_run.proofs.Exports.{awake_on, caller_on, led_legal, none_between}
 use Rattle.dim_mutex.specs.declared.holdings.Holdings.{Holdings}
-use Rattle.dim_mutex.specs.Standing.{is_running, is_allowed, mode_of, wanted, wanted_at, wanted_in, holds, holds_at, owed, owed_at, all_locks, stack_wished, still, HoldsSame, HasTaken, HasFreed}
+use Rattle.dim_mutex.specs.Standing.{is_running, is_allowed, mode_of, wanted, wanted_at, wanted_in, holds, holds_at, owed, owed_at, all_locks, stack_wished, HoldsSame, HasTaken, HasFreed}
 use Rattle.dim_mutex.specs.Views.{IsSound}
 use Rattle.dim_mutex.specs.Holdings.{AreHoldings, IsKept, kept_for, wanted_by}
-use Rattle.dim_mutex.specs.Calls.{HasRoom, WaitsFor, StillYields}
-use Rattle.dim_mutex.specs.Steps.{MayRequest, runs, woken, IsWokenOn, Requested, Requests, Acquired, Acquires, Stands, WaitsOn, Released}
+use Rattle.dim_mutex.specs.Calls.{HasRoom}
+use Rattle.dim_mutex.specs.Steps.{MayRequest, runs, woken, IsWokenOn, Requested, Requests, Acquired, Acquires, Stands, Released}
 use Rattle.dim_mutex.proofs.Between.{NoWords, no_words, mode_on, count_on, wish_on}
 use Rattle.dim_mutex.proofs.Held.{held_same, held_some}
 use Rattle.dim_mutex.proofs.Changes.{low_lock, holdings_on, holds_same, owed_same, wanted_same, after_go, after_yield, after_taking, after_freeing, after_miss, go_allowed, go_wants, yield_wants, Changes, got_changes, took_changes, free_changes, now_held, now_free, others_held, owes_more, owes_less}

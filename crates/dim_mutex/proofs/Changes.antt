@@ -1,18 +1,18 @@
 -- What the holdings of a thread are after an entry more.
-use Rattle.std.proofs.Common.{◌≡◌, ℕ, zero, suc, ◌+◌, ◌-◌, ◌<◌, ◌≤◌, Bool, true, false, ◌&&◌, eqb, refl, ap, ap₂, sym, ◌∙◌, subst, inl, inr, List, [], ◌∷◌, ◌++◌, length, set, get_or, arith}
-use Rattle.std.specs.Prelude.{Option, Some, None, not, if◌then◌else◌, nat_lt}
-use Rattle.std.proofs.lemmas.Bool.{eqb-true, eq-eqb, and_from, and_right, cases_Bool, ltb-true, le-ltb, eqb-false, false≢true}
+use Rattle.std.proofs.Common.{◌≡◌, ℕ, suc, ◌+◌, ◌-◌, ◌<◌, ◌≤◌, Bool, true, false, ◌&&◌, eqb, refl, ap, sym, ◌∙◌, subst, inl, inr, List, ◌∷◌, ◌++◌, length, set, get_or, arith}
+use Rattle.std.specs.Prelude.{Option, Some, not, if◌then◌else◌, nat_lt}
+use Rattle.std.proofs.lemmas.Bool.{eqb-true, and_right, cases_Bool, eqb-false}
 use Rattle.std.proofs.lemmas.List.{get_or-set_same, get_or-set_other, length-set}
 use Rattle.dim_base.specs.declared.Tid.{Tid}
 use Rattle.dim_base.specs.declared.Lid.{Lid}
 use Rattle.dim_stack.specs.declared.Frame.{Frame}
 use Rattle.dim_rag.specs.declared.entry.Entry.{Entry}
-use Rattle.dim_rag.specs.declared.entry.Entry.TheVariants.{Go, Yield, Got, Free, Took, Miss, End, Break, Learn}
+use Rattle.dim_rag.specs.declared.entry.Entry.TheVariants.{Go, Yield, Got, Free, Took, Miss}
 use Rattle.dim_rag.specs.declared.entry.MissWhy.{MissWhy}
 use Rattle.dim_rag.specs.declared.entry.Mode.{Mode}
 use Rattle.dim_rag.specs.declared.entry.Mode.TheVariants.{Running, Allowed, Yielding, Ended}
 use Rattle.dim_rag.specs.declared.entry.Edge.{Edge}
-use Rattle.dim_rag.specs.History.{past, is_word_of, mode, allow, count, latest_wish, Wish}
+use Rattle.dim_rag.specs.History.{past, mode, count, latest_wish, Wish}
 use Rattle.dim_rag.proofs.Exports.{allow-about, mode-word, same, same_pair}
 use Rattle.dim_gate.specs.Known.{stack_of}
 use Rattle.dim_mutex.specs.declared.holdings.Holdings.{Holdings}

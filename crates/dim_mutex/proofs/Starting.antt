@@ -1,5 +1,5 @@
 -- The callers of a turn at its start.
-use Rattle.std.proofs.Common.{◌≡◌, ℕ, zero, suc, ◌+◌, ◌<◌, ◌≤◌, Bool, true, false, refl, ap, ap₂, sym, ◌∙◌, subst, inl, inr, List, [], ◌∷◌, length, map, get_or, replicate, arith}
+use Rattle.std.proofs.Common.{◌≡◌, ℕ, zero, suc, ◌+◌, ◌<◌, ◌≤◌, Bool, false, refl, ap, ap₂, sym, ◌∙◌, subst, inl, inr, List, [], ◌∷◌, length, map, get_or, replicate, arith}
 use Rattle.std.specs.Prelude.{All, Option, Some, None, if◌then◌else◌, slice_get}
 use Rattle.std.specs.Option.{option_map}
 use Rattle.std.proofs.lemmas.Option.{same_Some, slice_get-get_or, slice_get-map}
@@ -8,10 +8,9 @@ use Rattle.std.proofs.lemmas.List.{get_or-replicate, get_or_past, length-replica
 use Rattle.dim_base.specs.declared.Lid.{Lid}
 use Rattle.dim_stack.specs.declared.Frame.{Frame}
 use Rattle.dim_rag.specs.declared.entry.Entry.{Entry}
-use Rattle.dim_rag.specs.History.{past, count, mode}
+use Rattle.dim_rag.specs.History.{past, mode}
 use Rattle.dim_run.specs.Callers.{Opening, Known, IsCaller}
-use Rattle.dim_mutex.specs.declared.holdings.Holdings.{Holdings}
-use Rattle.dim_mutex.specs.Standing.{IsIdle, held_below, holds_at, owed_at, all_locks}
+use Rattle.dim_mutex.specs.Standing.{IsIdle, held_below, holds_at, all_locks}
 use Rattle.dim_mutex.specs.Views.{fresh}
 use Rattle.dim_mutex.specs.Holdings.{AreHoldings, IsKept}
 

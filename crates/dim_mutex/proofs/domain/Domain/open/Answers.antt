@@ -2,8 +2,7 @@ use Rattle.std.proofs.Common.{◌≡◌, ◌∙◌, ◌<◌, ap, sym, subst, len
 use Rattle.std.proofs.lemmas.Option.{slice_get_within}
 use Rattle.std.proofs.lemmas.List.{length-map}
 use Rattle.dim_run.specs.Callers.{Opening, IsCaller}
-use Rattle.dim_run.specs.Gates.{known}
-use Rattle.dim_mutex.specs.Views.{CallerView, IsCallerOf, opening, fresh, view_of}
+use Rattle.dim_mutex.specs.Views.{IsCallerOf, opening, fresh, view_of}
 use Rattle.dim_mutex.specs.Standing.{IsIdle}
 use Rattle.dim_mutex.proofs.Starting.{all_from, fresh_caller, fresh_idle, mapped}
 use Rattle.dim_mutex.proofs.domain.Domain.open.Goals as goal
