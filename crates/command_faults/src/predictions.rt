@@ -77,7 +77,14 @@ fn a_trace_that_does_not_execute_the_program_foretells_nothing(rt: HostRuntime) 
     let words = "predict p l t h";
     refuses(&rt, rt.alloc(), words, &given, 11, "no 2 legal\n");
     let given = [("p", CROSSED), ("t", CROSSED)];
-    refuses(&rt, rt.alloc(), PREDICT, &given, 13, "trace line 1 kind 1\n");
+    refuses(
+        &rt,
+        rt.alloc(),
+        PREDICT,
+        &given,
+        13,
+        "trace line 1 kind 1\n",
+    );
 }
 
 // One thread that takes so many locks, one after the other, and keeps them. Each is taken while it

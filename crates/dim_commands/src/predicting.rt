@@ -14,11 +14,7 @@ fn foretold_text(alloc: Global, candidates: usize, added: u32) -> Result<String,
 }
 
 /// The report of `predict`: how many candidates there are, and how many were added to the history.
-pub fn foretold_report(
-    alloc: Global,
-    candidates: usize,
-    added: u32,
-) -> Result<Report, OutOfMemory>
+pub fn foretold_report(alloc: Global, candidates: usize, added: u32) -> Result<Report, OutOfMemory>
     ensures { IfOk result (λ r. r ≡ foretold_report candidates added) }
 {
     let text = foretold_text(alloc, candidates, added)?;
