@@ -1,5 +1,5 @@
 -- What `immunize` has stored.
-use Rattle.std.proofs.Common.{◌≡◌, Option, Some, Result, Ok, Err, OnOk, false}
+use Rattle.std.proofs.Common.{◌≡◌, Option, Result, Ok, Err, OnOk, false}
 use Rattle.std.specs.Str.{bytes_eq}
 use Rattle.dim_base.specs.Files.{Named}
 use Rattle.dim_commands.specs.declared.report.Report.{Report}

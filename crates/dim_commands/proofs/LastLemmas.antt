@@ -1,8 +1,7 @@
 -- How many attempts are made: as many as tests find.
-use Rattle.std.proofs.Common.{◌≡◌, ℕ, zero, suc, ◌+◌, ◌-◌, ◌<◌, ◌≤◌, List, length, Bool, true, false, refl, sym, ap, ◌∙◌, arith, inl, inr}
+use Rattle.std.proofs.Common.{◌≡◌, ℕ, zero, suc, ◌+◌, ◌-◌, ◌<◌, ◌≤◌, List, length, Bool, true, refl, sym, ap, ◌∙◌, arith, inl, inr}
 use Rattle.std.specs.Prelude.{nat_le}
 use Rattle.std.proofs.lemmas.Bool.{and_parts, and_from, both_ways, cases_Bool, cases_lt, cond-true, cond-false, false≢true, le-leb, leb-true}
-use Rattle.dim_asm.specs.Code.{Code}
 use Rattle.dim_signature.specs.Sig.{Sig}
 use Rattle.dim_history_file.specs.Spelling.{history_text}
 use Rattle.dim_history_file.specs.Value.{named}

@@ -1,4 +1,4 @@
-use Rattle.std.proofs.Common.{◌+◌, ◌++◌, take, get_or, sym, ap, ◌∙◌}
+use Rattle.std.proofs.Common.{◌+◌, ◌++◌, get_or, sym, ap, ◌∙◌}
 use Rattle.std.proofs.lemmas.Option.{slice_get-get_or}
 use Rattle.dim_run.specs.declared.playing.Outcome.TheVariants.{Finished}
 use Rattle.dim_tune.specs.declared.attempt.Attempt.{Attempt}

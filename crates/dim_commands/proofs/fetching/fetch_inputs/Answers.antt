@@ -1,4 +1,4 @@
-use Rattle.std.proofs.Common.{◌≡◌, Some, ◌∙◌, arith}
+use Rattle.std.proofs.Common.{◌∙◌, arith}
 use Rattle.std.proofs.lemmas.Result.{err_from_is_err_and}
 use Rattle.dim_commands.specs.declared.stop.Place.TheVariants.{Program}
 use Rattle.dim_commands.specs.Course.{Stops, fetches}

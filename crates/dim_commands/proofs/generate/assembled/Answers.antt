@@ -1,4 +1,4 @@
-use Rattle.std.proofs.Common.{◌≡◌, Ok, sym, ◌∙◌, subst}
+use Rattle.std.proofs.Common.{sym, ◌∙◌, subst}
 use Rattle.dim_text.specs.Reading.{Fails}
 use Rattle.dim_asm.specs.Assembling.{program_of}
 use Rattle.dim_asm.specs.Faults.{fault_of}

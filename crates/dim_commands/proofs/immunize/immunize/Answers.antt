@@ -1,6 +1,5 @@
 use Rattle.std.proofs.Common.{◌≡◌, Some, ◌∙◌, subst}
 use Rattle.std.proofs.lemmas.Result.{err_from_is_err_and}
-use Rattle.dim_base.specs.Files.{Named}
 use Rattle.dim_words.specs.Commands.{immunize_words}
 use Rattle.dim_commands.specs.declared.report.Report.{Report}
 use Rattle.dim_commands.specs.Course.{Stops, Runs, WhereTold}
