@@ -1,0 +1,10 @@
+pub mod Splitting
+pub mod Telling
+pub mod Passing
+pub mod Endings
+pub mod Rowing
+pub mod ShapeSteps
+pub mod Noted
+pub mod Placed
+pub mod OneLine
+pub mod Links

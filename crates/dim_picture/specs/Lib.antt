@@ -1,0 +1,10 @@
+pub mod Marks
+pub mod Shapes
+pub mod Places
+pub mod Told
+pub mod Value
+pub mod Frames
+pub mod Elements
+pub mod Figures
+pub mod Lines
+pub mod Page

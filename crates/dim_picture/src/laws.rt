@@ -1,0 +1,18 @@
+//! Laws of pictures. Each is a function with nothing to do, whose contract is the law: a call of it
+//! brings the law to its caller.
+ghost use Rattle.dim_picture.specs.Places.{ShapesLaw};
+ghost use Rattle.dim_picture.specs.Told.{ToldLaw};
+
+/// Each entry of a list that executes a program may come after those before it, and is in the
+/// ranges of the program.
+pub(crate) fn told_law()
+    ensures { ToldLaw }
+{}
+
+/// What the shapes of entries say, by places. There is one for each entry, at its place, and its mark
+/// is what the entry is. It ends at the first place behind it at which such a mark ends, or behind
+/// all entries: what waits or yields at the next entry of its thread, a hold at the Free that ends
+/// it, each other at the next place.
+pub fn shapes_law()
+    ensures { ShapesLaw }
+{}

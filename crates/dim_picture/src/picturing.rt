@@ -1,0 +1,189 @@
+//! The text of a picture.
+ghost use Rattle.std.specs.Prelude.{◌≡◌, ◌++◌, IfOk, OnOk, length, slice_get, codes};
+ghost use Rattle.std.specs.String.{string_bytes};
+ghost use Rattle.dim_picture.specs.Page.{colour_of, group, drawn, shown, mark_by, marks, front, back, picture_in, picture_text};
+
+use crate::drawing::put_figure;
+use crate::frame::Frame;
+use crate::lanes::frame_of;
+use crate::line::put_line_at;
+use crate::mark::Mark;
+use crate::page::{put_foot, put_head, put_heading, put_lanes, put_lock_keys, put_ticks};
+use crate::references::put_references;
+use crate::shape::Shape;
+use crate::shaping::Drawing;
+use dim_asm::Program;
+use dim_base::{Bytes, OutOfMemory};
+use dim_stack::Names;
+use dim_trace::KeptTrace;
+use std::alloc::{AllocError, Global};
+
+/// The colour of a mark: that of its lock, of eight, or one behind them.
+fn colour_of(mark: Mark) -> u32
+    ensures { result ≡ colour_of mark }
+{
+    match mark {
+        Mark::Wait { l, .. } | Mark::Yield { l, .. } | Mark::Hold { l, .. } => l.0 % 8,
+        Mark::Deeper { l, .. } | Mark::Inner { l, .. } | Mark::Free { l, .. } => l.0 % 8,
+        Mark::Miss { l, .. } | Mark::Break { l, .. } => l.0 % 8,
+        Mark::End { .. } | Mark::Learn => 8,
+    }
+}
+
+/// The opening of a mark's group, up to its title.
+#[tactic(auto, unfolding(crate::specs::Page::group))]
+fn group(alloc: Global, colour: u32) -> Result<String, AllocError>
+    ensures { IfOk result (λ text. string_bytes text ≡ group colour) }
+{
+    format!(in alloc; "<g class=\"l{colour}\"><title>")
+}
+
+/// What is drawn of a shape at a place, behind its title.
+fn drawn(
+    alloc: Global,
+    program: &Program,
+    trace: &KeptTrace,
+    frame: &Frame,
+    shapes: &[Shape],
+    place: u32,
+    shape: &Shape,
+) -> Result<String, AllocError>
+    ensures { IfOk result (λ text. string_bytes text ≡ codes "</title>" ++
+        drawn program.now frame.now shapes.now place shape.now (slice_get trace.now.entries place)) }
+{
+    let mut text = String::from_str(alloc, "</title>")?;
+    put_figure(&mut text, program, frame, place, shape)?;
+    put_references(&mut text, trace, frame, shapes, place, shape.row)?;
+    text.push_str("</g>\n")?;
+    Ok(text)
+}
+
+/// Appends a shape at a place, with the line of its entry.
+fn put_shown(
+    alloc: Global,
+    out: &mut Vec<u8>,
+    program: &Program,
+    names: &Names,
+    trace: &KeptTrace,
+    frame: &Frame,
+    shapes: &[Shape],
+    place: u32,
+    shape: &Shape,
+) -> Result<(), OutOfMemory>
+    ensures { OnOk result (out.new.items ≡ out.old.items
+        ++ shown program.now names.now frame.now shapes.now place shape.now
+        (slice_get trace.now.entries place)) }
+{
+    let opened = group(alloc, colour_of(shape.mark))?;
+    out.extend_from_slice(opened.as_bytes())?;
+    put_line_at(alloc, out, program, names, trace, place)?;
+    let rest = drawn(alloc, program, trace, frame, shapes, place, shape)?;
+    Ok(out.extend_from_slice(rest.as_bytes())?)
+}
+
+/// Appends the shape at a place, where it reaches into the range.
+fn put_mark(
+    alloc: Global,
+    out: &mut Vec<u8>,
+    program: &Program,
+    names: &Names,
+    trace: &KeptTrace,
+    frame: &Frame,
+    shapes: &[Shape],
+    place: u32,
+) -> Result<(), OutOfMemory>
+    ensures { OnOk result (out.new.items ≡ out.old.items
+        ++ mark_by program.now names.now frame.now shapes.now place
+        (slice_get shapes.now place) (slice_get trace.now.entries place)) }
+{
+    match shapes.get(place as usize) {
+        Some(shape) if frame.is_shown(place, shape) => {
+            put_shown(
+                alloc, out, program, names, trace, frame, shapes, place, shape,
+            )
+        }
+        _ => Ok(()),
+    }
+}
+
+/// What stands before the marks.
+fn front(
+    alloc: Global,
+    program: &Program,
+    trace: &KeptTrace,
+    drawing: &Drawing,
+    frame: &Frame,
+) -> Result<String, AllocError>
+    ensures { IfOk result (λ text. string_bytes text
+        ≡ front program.now frame.now drawing.now.outcome (length trace.now.entries)
+        trace.now.fuel trace.now.depth) }
+{
+    let mut text = String::new(alloc);
+    put_head(&mut text, frame, program.locks())?;
+    let outcome = drawing.outcome;
+    put_heading(
+        &mut text,
+        frame,
+        outcome,
+        trace.len(),
+        trace.fuel(),
+        trace.depth(),
+    )?;
+    put_ticks(&mut text, frame)?;
+    put_lanes(&mut text, program, frame)?;
+    Ok(text)
+}
+
+/// What stands behind the marks.
+fn back(alloc: Global, program: &Program, frame: &Frame) -> Result<String, AllocError>
+    ensures { IfOk result (λ text. string_bytes text ≡ back program.now frame.now) }
+{
+    let mut text = String::new(alloc);
+    put_lock_keys(&mut text, program, frame)?;
+    put_foot(&mut text, frame, program.locks())?;
+    Ok(text)
+}
+
+/// The picture in a frame.
+fn picture_in(
+    alloc: Global,
+    program: &Program,
+    names: &Names,
+    trace: &KeptTrace,
+    drawing: &Drawing,
+    frame: &Frame,
+) -> Result<Vec<u8>, OutOfMemory>
+    ensures { IfOk result (λ out. out.items
+        ≡ picture_in program.now names.now trace.now.fuel trace.now.depth trace.now.entries
+        drawing.now.outcome drawing.now.shapes.items frame.now) }
+{
+    let mut out = front(alloc, program, trace, drawing, frame)?.into_bytes();
+    let shapes = drawing.shapes.as_slice();
+    for place in 0..frame.to() {
+        put_mark(alloc, &mut out, program, names, trace, frame, shapes, place)?;
+    }
+    out.extend_from_slice(back(alloc, program, frame)?.as_bytes())?;
+    Ok(out)
+}
+
+/// The text of the picture of a trace's entries from a place on and before another, as SVG. docs/
+/// has what it shows.
+#[tactic(auto, unfolding(crate::specs::Page::picture_text))]
+pub fn picture_text(
+    alloc: Global,
+    program: &Program,
+    names: &Names,
+    trace: &KeptTrace,
+    drawing: &Drawing,
+    from: u32,
+    to: u32,
+) -> Result<Bytes, OutOfMemory>
+    ensures { IfOk result (λ text. text
+        ≡ picture_text program.now names.now trace.now.fuel trace.now.depth trace.now.entries
+        drawing.now.outcome drawing.now.shapes.items from to) }
+{
+    let shapes = drawing.shapes.as_slice();
+    let frame = frame_of(alloc, program.threads(), shapes, from, to)?;
+    let out = picture_in(alloc, program, names, trace, drawing, &frame)?;
+    Ok(Bytes::from_vec(out))
+}
