@@ -8,3 +8,4 @@ pub mod Noted
 pub mod Placed
 pub mod OneLine
 pub mod Links
+pub mod Documented

@@ -8,3 +8,5 @@ pub mod Elements
 pub mod Figures
 pub mod Lines
 pub mod Page
+pub mod Xml
+pub mod Documents

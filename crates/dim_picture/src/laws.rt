@@ -1,5 +1,6 @@
 //! Laws of pictures. Each is a function with nothing to do, whose contract is the law: a call of it
 //! brings the law to its caller.
+ghost use Rattle.dim_picture.specs.Documents.{DocumentLaw};
 ghost use Rattle.dim_picture.specs.Places.{ShapesLaw};
 ghost use Rattle.dim_picture.specs.Told.{ToldLaw};
 
@@ -15,4 +16,11 @@ pub(crate) fn told_law()
 /// it, each other at the next place.
 pub fn shapes_law()
     ensures { ShapesLaw }
+{}
+
+/// The text of a picture is well-formed, where the names of the program and of the table are plain:
+/// it is one element, each element in it is closed, and each name, value and word is plain, with no
+/// quote, ampersand or bracket.
+pub fn document_law()
+    ensures { DocumentLaw }
 {}

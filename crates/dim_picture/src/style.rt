@@ -43,17 +43,15 @@ text.miss{fill:#aa1111;font-weight:600}
 
 /// The patterns of locks and of Yields.
 pub const PATTERNS: &str = "<defs>
-<pattern id=\"p1\" width=\"8\" height=\"8\" patternUnits=\"userSpaceOnUse\"
- patternTransform=\"rotate(45)\">
-<rect width=\"3\" height=\"8\" fill=\"#ffffff\" fill-opacity=\".45\"/></pattern>
+<pattern id=\"p1\" width=\"8\" height=\"8\" patternUnits=\"userSpaceOnUse\">
+<path d=\"M-2 2L2 -2M0 8L8 0M6 10L10 6\" stroke=\"#ffffff\" stroke-width=\"2\"/></pattern>
 <pattern id=\"p2\" width=\"8\" height=\"8\" patternUnits=\"userSpaceOnUse\">
-<circle cx=\"4\" cy=\"4\" r=\"2\" fill=\"#ffffff\" fill-opacity=\".6\"/></pattern>
+<circle cx=\"4\" cy=\"4\" r=\"2\" fill=\"#ffffff\"/></pattern>
 <pattern id=\"p3\" width=\"6\" height=\"6\" patternUnits=\"userSpaceOnUse\">
-<rect width=\"6\" height=\"2\" fill=\"#ffffff\" fill-opacity=\".5\"/></pattern>
-<pattern id=\"hatch\" width=\"7\" height=\"7\" patternUnits=\"userSpaceOnUse\"
- patternTransform=\"rotate(45)\">
-<rect width=\"7\" height=\"7\" fill=\"#ffffff\"/>
-<rect width=\"3\" height=\"7\" fill=\"#ee9999\"/></pattern>
+<rect width=\"6\" height=\"2\" fill=\"#ffffff\"/></pattern>
+<pattern id=\"hatch\" width=\"8\" height=\"8\" patternUnits=\"userSpaceOnUse\">
+<rect width=\"8\" height=\"8\" fill=\"#ffffff\"/>
+<path d=\"M-2 2L2 -2M0 8L8 0M6 10L10 6\" stroke=\"#ee9999\" stroke-width=\"3\"/></pattern>
 </defs>
 ";
 
