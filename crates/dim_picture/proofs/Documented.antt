@@ -26,7 +26,7 @@ use Rattle.dim_picture.specs.declared.mark.Mark.TheVariants.{Wait, Yield, Hold, 
 use Rattle.dim_picture.specs.declared.shape.Shape.{Shape}
 use Rattle.dim_picture.specs.Documents.{HavePlainNames, DocumentLaw}
 use Rattle.dim_picture.specs.Elements.{rect, opening, words, named, line, circle, sign}
-use Rattle.dim_picture.specs.Figures.{pattern_class, pattern, hold, wait, sig_word, yielding, broken, freed, missed, why_words, ended, figure, figure_by, middle, link_to, ring_at, link, ring, references_by}
+use Rattle.dim_picture.specs.Figures.{pattern_class, pattern, hold, wait, sig_word, yielding, broken, freed, missed, why_words, ended, figure, figure_by, lane_of, laned, middle, link_to, ring_at, link, ring, references_by}
 use Rattle.dim_picture.specs.Frames.{x_of, y_of, top_of, width_of, is_shown, frame_of}
 use Rattle.dim_picture.specs.Lines.{line_of, line_at}
 use Rattle.dim_picture.specs.Page.{opened, style, patterns, kinds, kinds_y, outcome_word, range_words, heading, is_labelled, tick_label, tick, tick_at, ticks, lanes, colour_of, group, shown, mark_by, marks, colour_group, lock_keys, moved, picture_in, picture_text}
@@ -267,21 +267,25 @@ kinds_content = subst IsContent (sym kinds_are) (both _ (codes "\n") (element (c
 -- ---- marks
 
 module _ (p : Code) (locks : (l : Lid) → IsPlain (lock_word p l)) where
-  figure_by_content : (f : FrameValue) (q end row : ℕ) (m : Mark) → IsContent (figure_by p f q end row m)
-  figure_by_content f q end row (Wait t l) = wait_content (lock_word p l) (locks l) (x_of f q) (y_of f t row) (x_of f end - x_of f q) (nat_lt (q + 1) end)
-  figure_by_content f q end row (Yield t l sig) = yielding_content sig (x_of f q) (y_of f t row) (x_of f end - x_of f q)
-  figure_by_content f q end row (Hold t l) = hold_content (lock_word p l) (locks l) l (x_of f q) (y_of f t row) (x_of f end - x_of f q)
-  figure_by_content f q end row (Deeper t l birth) = text_content (codes "count") (x_of f q + 2) (y_of f t row + 13) (codes "+") refl refl
-  figure_by_content f q end row (Inner t l birth) = text_content (codes "count") (x_of f q + 2) (y_of f t row + 13) (codes "-") refl refl
-  figure_by_content f q end row (Free t l birth) = freed_content (x_of f q) (y_of f t row)
-  figure_by_content f q end row (Miss t l) = missed_content (lock_word p l) (locks l) (x_of f q) (y_of f t row) (x_of f end - x_of f q)
-  figure_by_content f q end row (End t why) = ended_content why (x_of f q) (y_of f t row)
-  figure_by_content f q end row (Break t l) = broken_content (lock_word p l) (locks l) (x_of f q) (y_of f t row) (x_of f end - x_of f q) (nat_lt (q + 1) end)
-  figure_by_content f q end row Learn = both (line (codes "learn") (x_of f q) 64 f.bottom) _ (line_content (codes "learn") (x_of f q) 64 f.bottom refl) (text_content (codes "learnt") (x_of f q) (f.bottom + 14) (codes "learn") refl refl)
+  laned_content : (x y width : ℕ) (lasts : Bool) (m : Mark) → IsContent (laned p x y width lasts m)
+  laned_content x y width lasts (Wait t l) = wait_content (lock_word p l) (locks l) x y width lasts
+  laned_content x y width lasts (Yield t l sig) = yielding_content sig x y width
+  laned_content x y width lasts (Hold t l) = hold_content (lock_word p l) (locks l) l x y width
+  laned_content x y width lasts (Deeper t l birth) = text_content (codes "count") (x + 2) (y + 13) (codes "+") refl refl
+  laned_content x y width lasts (Inner t l birth) = text_content (codes "count") (x + 2) (y + 13) (codes "-") refl refl
+  laned_content x y width lasts (Free t l birth) = freed_content x y
+  laned_content x y width lasts (Miss t l) = missed_content (lock_word p l) (locks l) x y width
+  laned_content x y width lasts (End t why) = ended_content why x y
+  laned_content x y width lasts (Break t l) = broken_content (lock_word p l) (locks l) x y width lasts
+  laned_content x y width lasts Learn = said [] refl
+
+  figure_by_content : (f : FrameValue) (q : ℕ) (s : Shape) (lane : Option Tid) → IsContent (figure_by p f q s lane)
+  figure_by_content f q s (Some t) = laned_content (x_of f q) (y_of f t s.row) (x_of f s.end - x_of f q) (nat_lt q (s.end - 1)) s.mark
+  figure_by_content f q s None = both (line (codes "learn") (x_of f q) 64 f.bottom) _ (line_content (codes "learn") (x_of f q) 64 f.bottom refl) (text_content (codes "learnt") (x_of f q) (f.bottom + 14) (codes "learn") refl refl)
 
   figure_content : (f : FrameValue) (q : ℕ) (s : Shape) → IsContent (figure p f q s)
   unfolding figure
-  figure_content f q s = figure_by_content f q s.end s.row s.mark
+  figure_content f q s = figure_by_content f q s (lane_of s.mark)
 
 each_content : (f : ℕ → List ℕ) → ((b : ℕ) → IsContent (f b)) → (bs : List ℕ) → IsContent (flat_map f bs)
 each_content f k [] = said [] refl

@@ -71,21 +71,40 @@ abbrev pub learn_figure : FrameValue → ℕ → List ℕ
 learn_figure f q = line (codes "learn") (x_of f q) 64 f.bottom
     ++ words (codes "learnt") (x_of f q) (f.bottom + 14) (codes "learn")
 
-abbrev pub figure_by : Code → FrameValue → ℕ → ℕ → ℕ → Mark → List ℕ
-figure_by p f q end row (Wait t l) = wait (lock_word p l) (x_of f q) (y_of f t row) (x_of f end - x_of f q) (nat_lt (q + 1) end)
-figure_by p f q end row (Yield t l sig) = yielding sig (x_of f q) (y_of f t row) (x_of f end - x_of f q)
-figure_by p f q end row (Hold t l) = hold (lock_word p l) l (x_of f q) (y_of f t row) (x_of f end - x_of f q)
-figure_by p f q end row (Deeper t l birth) = words (codes "count") (x_of f q + 2) (y_of f t row + 13) (codes "+")
-figure_by p f q end row (Inner t l birth) = words (codes "count") (x_of f q + 2) (y_of f t row + 13) (codes "-")
-figure_by p f q end row (Free t l birth) = freed (x_of f q) (y_of f t row)
-figure_by p f q end row (Miss t l) = missed (lock_word p l) (x_of f q) (y_of f t row) (x_of f end - x_of f q)
-figure_by p f q end row (End t why) = ended why (x_of f q) (y_of f t row)
-figure_by p f q end row (Break t l) = broken (lock_word p l) (x_of f q) (y_of f t row) (x_of f end - x_of f q) (nat_lt (q + 1) end)
-figure_by p f q end row Learn = learn_figure f q
+-- the thread in whose lane a mark stands
+abbrev pub lane_of : Mark → Option Tid
+lane_of (Wait t l) = Some t
+lane_of (Yield t l sig) = Some t
+lane_of (Hold t l) = Some t
+lane_of (Deeper t l birth) = Some t
+lane_of (Inner t l birth) = Some t
+lane_of (Free t l birth) = Some t
+lane_of (Miss t l) = Some t
+lane_of (End t why) = Some t
+lane_of (Break t l) = Some t
+lane_of Learn = None
+
+-- what is drawn of a mark in a lane
+abbrev pub laned : Code → ℕ → ℕ → ℕ → Bool → Mark → List ℕ
+laned p x y width lasts (Wait t l) = wait (lock_word p l) x y width lasts
+laned p x y width lasts (Yield t l sig) = yielding sig x y width
+laned p x y width lasts (Hold t l) = hold (lock_word p l) l x y width
+laned p x y width lasts (Deeper t l birth) = words (codes "count") (x + 2) (y + 13) (codes "+")
+laned p x y width lasts (Inner t l birth) = words (codes "count") (x + 2) (y + 13) (codes "-")
+laned p x y width lasts (Free t l birth) = freed x y
+laned p x y width lasts (Miss t l) = missed (lock_word p l) x y width
+laned p x y width lasts (End t why) = ended why x y
+laned p x y width lasts (Break t l) = broken (lock_word p l) x y width lasts
+laned p x y width lasts Learn = []
+
+-- a wait has its name where it goes on beyond the next place
+abbrev pub figure_by : Code → FrameValue → ℕ → Shape → Option Tid → List ℕ
+figure_by p f q s (Some t) = laned p (x_of f q) (y_of f t s.row) (x_of f s.end - x_of f q) (nat_lt q (s.end - 1)) s.mark
+figure_by p f q s None = learn_figure f q
 
 -- what is drawn of the shape at q
 unfoldable pub figure : Code → FrameValue → ℕ → Shape → List ℕ
-figure p f q s = figure_by p f q s.end s.row s.mark
+figure p f q s = figure_by p f q s (lane_of s.mark)
 
 -- ---- what a Yield and a Learn name
 
