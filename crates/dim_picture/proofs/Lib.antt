@@ -9,3 +9,4 @@ pub mod Placed
 pub mod OneLine
 pub mod Links
 pub mod Documented
+pub mod Ranged

@@ -10,3 +10,4 @@ pub mod Lines
 pub mod Page
 pub mod Xml
 pub mod Documents
+pub mod Ranges

@@ -2,6 +2,7 @@
 //! brings the law to its caller.
 ghost use Rattle.dim_picture.specs.Documents.{DocumentLaw};
 ghost use Rattle.dim_picture.specs.Places.{ShapesLaw};
+ghost use Rattle.dim_picture.specs.Ranges.{RangeLaw};
 ghost use Rattle.dim_picture.specs.Told.{ToldLaw};
 
 /// Each entry of a list that executes a program may come after those before it, and is in the
@@ -23,4 +24,10 @@ pub fn shapes_law()
 /// quote, ampersand or bracket.
 pub fn document_law()
     ensures { DocumentLaw }
+{}
+
+/// The shape at each place of a range is drawn. With `shapes_law`: each entry of the range has
+/// exactly one mark.
+pub fn range_law()
+    ensures { RangeLaw }
 {}

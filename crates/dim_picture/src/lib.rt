@@ -21,7 +21,7 @@ mod shaping;
 mod style;
 mod svg;
 
-pub use laws::{document_law, shapes_law};
+pub use laws::{document_law, range_law, shapes_law};
 pub use mark::Mark;
 pub use picturing::picture_text;
 pub use shape::Shape;
