@@ -83,6 +83,39 @@ fn each_command_has_its_own_options(rt: HostRuntime) {
     }
 }
 
+// One worker plays one slice after the other. Where threads take two locks in crossed orders, slices
+// of two moves meet in the deadlock, and those of sixteen do all of a thread's work.
+const SLICES: [(&str, u8); 2] = [("2", 3), ("16", 0)];
+
+fn ends_by_quantum<R: Abort + Threads + Wait + Sync>(
+    rt: &R,
+    alloc: Global,
+    quantum: &str,
+    status: u8,
+) {
+    let words = [
+        "live",
+        "p",
+        "-",
+        "h",
+        "t",
+        "--workers",
+        "1",
+        "--quantum",
+        quantum,
+    ];
+    let after = call(rt, alloc, &words, CROSSED);
+    assert!(rt; after.status == status, "{quantum}");
+    done(after);
+}
+
+#[test]
+fn one_worker_goes_by_the_quantum(rt: HostRuntime) {
+    for &(quantum, status) in &SLICES {
+        ends_by_quantum(&rt, rt.alloc(), quantum, status);
+    }
+}
+
 #[test]
 fn the_house_is_left_by_other_commands(rt: HostRuntime) {
     let after = call(&rt, rt.alloc(), &RUN, SMALLEST);
