@@ -1,4 +1,4 @@
-# Completion of the words of dim for bash: commands, options, the states of a switch, and names of files.
+# Completion of the words of dim and dim-picture for bash: commands, options, the states of a switch, and names of files.
 # To use it: . completions/dim.bash
 
 _dim() {
@@ -28,4 +28,15 @@ _dim() {
     esac
 }
 
+_dim_picture() {
+    local word=${COMP_WORDS[COMP_CWORD]} before=${COMP_WORDS[COMP_CWORD - 1]}
+    COMPREPLY=()
+    case $before,$word in
+        --from,* | --to,*) ;;
+        *,-?*) mapfile -t COMPREPLY < <(compgen -W '--from --to' -- "$word") ;;
+        *) mapfile -t COMPREPLY < <(compgen -f -- "$word") ;;
+    esac
+}
+
 complete -o filenames -F _dim dim ./dim
+complete -o filenames -F _dim_picture dim-picture ./dim-picture

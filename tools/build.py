@@ -1,5 +1,6 @@
 #!/usr/bin/env python3
-"""Proves and builds the program of this repository: crates that don't stand on each other are proved side by side.
+"""build.py [PROGRAM]: proves and builds a program of this repository, dim where none is named. Crates that don't stand on each other are
+proved side by side.
 
 Each crate that the program stands on is made into a library by `rt lib`, once those below it are there, and the program at last by
 `rt run`. One crate at a time is proved in the repository itself, first those with the longest chain of others behind them, with a job for
@@ -7,7 +8,7 @@ each processor. The others are proved in copies of its sources, with half as man
 the first leaves. The copies lie in a folder for what passes and are gone at the end: rt lets one command work in a folder at a time, and
 takes over in one what it has proved in another. How many there are at once goes by the processors and the memory.
 
-What is at work is told on standard error, and all that rt says stands in crates/dim/out/build.log."""
+What is at work is told on standard error, and all that rt says stands in out/build.log of the program's crate."""
 import os
 import pathlib
 import shutil
@@ -18,7 +19,7 @@ import tempfile
 import time
 
 ROOT = pathlib.Path(__file__).resolve().parent.parent
-PROGRAM = "dim"
+PROGRAM = sys.argv[1] if len(sys.argv) > 1 else "dim"
 OUT = ROOT / "crates" / PROGRAM / "out"
 LOG = OUT / "build.log"
 # What a proof takes with one job, and for each further one.
