@@ -1,0 +1,13 @@
+pub mod Course
+pub mod Ending
+pub mod Files
+pub mod Laws
+pub mod Lines
+pub mod Made
+pub mod Merging
+pub mod Numbered
+pub mod Parts
+pub mod Report
+pub mod Sources
+pub mod Stops
+pub mod Words
