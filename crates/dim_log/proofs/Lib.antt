@@ -1,0 +1,11 @@
+mod Splitting
+mod Colons
+mod Once
+mod Growing
+mod Spelled
+mod Stacking
+mod Framing
+mod Endings
+mod Taking
+mod Weighing
+mod Finishing

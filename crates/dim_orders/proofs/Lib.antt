@@ -1,0 +1,13 @@
+pub mod HoldLemmas
+pub mod RowLemmas
+pub mod Members
+pub mod Around
+pub mod Replays
+pub mod Cutting
+pub mod Keys
+pub mod KeptLemmas
+pub mod LineLemmas
+pub mod KeepLemmas
+pub mod Lowest
+pub mod PlaceLemmas
+pub mod JoinedLemmas

@@ -1,0 +1,9 @@
+pub mod Holding
+pub mod Own
+pub mod Nestings
+pub mod Sections
+pub mod Crossing
+pub mod Lines
+pub mod Placing
+pub mod Cycles
+pub mod Kept

@@ -1,0 +1,9 @@
+//! Tests of logs.
+#![tactic(auto)]
+
+#[cfg(test)]
+mod faults;
+#[cfg(test)]
+mod given;
+#[cfg(test)]
+mod logs;
