@@ -5,8 +5,9 @@ proved side by side.
 Each crate that the program stands on is made into a library by `rt lib`, once those below it are there, and the program at last by
 `rt run`. One crate at a time is proved in the repository itself, first those with the longest chain of others behind them, with a job for
 each processor. The others are proved in copies of its sources, with half as many and at a lower priority, so that they take the time that
-the first leaves. The copies lie in a folder for what passes and are gone at the end: rt lets one command work in a folder at a time, and
-takes over in one what it has proved in another. How many there are at once goes by the processors and the memory.
+the first leaves. The copies lie in a folder for what passes and are gone at the end: rt lets one command work in a folder at a time. What
+a crate stands on is put there before, as it was made, and what was proved in a copy is put back. How many there are at once goes by the
+processors and the memory.
 
 What is at work is told on standard error, and all that rt says stands in out/build.log of the program's crate."""
 import os
@@ -88,6 +89,21 @@ def copied(crates, folder):
     return folder
 
 
+def put(file, copy):
+    """Puts a file in a second place, where it can without a copy of its bytes."""
+    try:
+        os.link(file, copy)
+    except OSError:
+        shutil.copy2(file, copy)
+
+
+def hand_on(name, part, here, there):
+    """Puts what was made of a crate in one copy of the sources into another, where it doesn't stand already."""
+    made, place = (pathlib.Path(it, "crates", name, "out", part) for it in (here, there))
+    if made.is_dir() and not place.exists():
+        shutil.copytree(made, place, copy_function=put)
+
+
 class Build:
     def __init__(self, beside):
         self.crates = crates_below(PROGRAM)
@@ -107,6 +123,9 @@ class Build:
         words = ["rt", "run", "--", "--build"] if name == PROGRAM else ["rt", "lib", "--jobs", str(jobs)]
         if folder != ROOT:
             words = ["nice", "-n", "10", *words]
+            for below in crates_below(name):
+                hand_on(below, "rlib", ROOT, folder)
+            hand_on(name, "incremental", ROOT, folder)
         with open(LOG, "a") as log:
             at = folder / "crates" / name
             child = subprocess.Popen(words, cwd=at, stdin=subprocess.DEVNULL, stdout=log, stderr=log, preexec_fn=os.setpgrp)
@@ -124,6 +143,13 @@ class Build:
                 return
             self.start(name, free[0], jobs)
 
+    def put_back(self, name, folder):
+        """Puts what a copy made of a crate into the repository, in place of what stands there."""
+        if folder != ROOT:
+            for part in ("rlib", "incremental"):
+                shutil.rmtree(ROOT / "crates" / name / "out" / part, ignore_errors=True)
+                hand_on(name, part, folder, ROOT)
+
     def tell(self):
         names = " and ".join(name for name, _ in self.running.values())
         seconds = int(time.time() - self.began)
@@ -135,8 +161,9 @@ class Build:
         while True:
             for child in list(self.running):
                 if child.poll() is not None:
-                    name, _ = self.running.pop(child)
+                    name, folder = self.running.pop(child)
                     self.done.add(name)
+                    self.put_back(name, folder)
                     return child.returncode == 0 or name == PROGRAM
             self.tell()
             time.sleep(0.2)
