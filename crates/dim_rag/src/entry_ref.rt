@@ -197,7 +197,7 @@ fn avoided(sig: u32, births: Births) -> MissWhy
 }
 
 /// The frames of a stack, of which there are 1 to 32.
-fn frames_of(stack: &Stack) -> &[Frame]
+pub(crate) fn frames_of(stack: &Stack) -> &[Frame]
     ensures value { result.now ≡ stack.now }
     ensures some { 1 ≤ length result.now }
     ensures few { length result.now ≤ 32 }

@@ -7,6 +7,7 @@ ghost use Rattle.dim_rag.specs.Counts.{times_held};
 ghost use Rattle.dim_rag.specs.Fits.{Fits, FitsAfter, IsUnheld, IsInRange, AreInRange};
 ghost use Rattle.dim_rag.specs.Tables.{HasLockBelow, held_by};
 ghost use Rattle.dim_rag.specs.Rows.{idle_row};
+ghost use Rattle.dim_rag.specs.Shown.{HasStack, shown};
 ghost use Rattle.dim_rag.specs.Links.{link_of};
 
 mod born;
@@ -23,6 +24,7 @@ mod told;
 mod trail;
 
 use crate::entry::{Edge, Entry, Mode};
+use crate::entry_ref::EntryRef;
 use dim_base::{Lid, OutOfMemory, Tid};
 use holder::Holder;
 use link::Link;
@@ -102,6 +104,20 @@ impl Graph {
         ensures { self.new
             ≡ record self.old
             { entries = self.old.entries ++ e.now ∷ []; spare = self.old.spare - 1 } }
+    {
+        self.enter_ref(&EntryRef::of(e));
+    }
+
+    /// Takes an entry that fits and is given by reference, while `spare` is at least 1. It costs the
+    /// same at any length.
+    pub fn enter_ref(&mut self, e: &EntryRef<'_>)
+        requires room { 1 ≤ self.old.spare }
+        requires stack { HasStack e.now }
+        requires in_range { IsInRange self.old.threads self.old.locks (shown e.now) }
+        requires fits { FitsAfter (past self.old.entries) (shown e.now) }
+        ensures { self.new
+            ≡ record self.old
+            { entries = self.old.entries ++ shown e.now ∷ []; spare = self.old.spare - 1 } }
     {
         let place = self.told.len();
         replay(

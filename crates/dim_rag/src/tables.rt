@@ -101,8 +101,22 @@ impl Tables {
             ≡ record self.old
             { entries = self.old.entries ++ e.now ∷ []; spare = self.old.spare - 1 } }
     {
-        self.graph.enter(e);
-        self.journal.push(e);
+        self.enter_ref(&EntryRef::of(e));
+    }
+
+    /// Appends an entry that fits and is given by reference, in the room that there is. It costs the
+    /// same at any length, and makes no entry.
+    pub fn enter_ref(&mut self, e: &EntryRef<'_>)
+        requires room { 1 ≤ self.old.spare }
+        requires stack { HasStack e.now }
+        requires in_range { IsInRange self.old.threads self.old.locks (shown e.now) }
+        requires fits { FitsAfter (past self.old.entries) (shown e.now) }
+        ensures { self.new
+            ≡ record self.old
+            { entries = self.old.entries ++ shown e.now ∷ []; spare = self.old.spare - 1 } }
+    {
+        self.graph.enter_ref(e);
+        self.journal.push_ref(e);
     }
 
     /// The entry at a place below the length.

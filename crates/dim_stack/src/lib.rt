@@ -28,6 +28,9 @@ pub struct Frame {
     pub at: u32,
 }
 
+/// What fills the array of a stack behind its frames.
+const NO_FRAMES: [Frame; MOST_FRAMES] = [Frame { func: 0, at: 0 }; MOST_FRAMES];
+
 /// A call stack of 1 to 32 frames, innermost first.
 ///
 /// A contract sees it as the list of its frames. It has a fixed size and is copied like a number.
@@ -78,6 +81,19 @@ impl Stack {
         let most = self.len.max(other.len);
         self.frames[..most].copy_from_slice(&other.frames[..most]);
         self.len = other.len;
+    }
+
+    /// Becomes the stack of 1 to 32 frames. Only the frames that one of the two has are written.
+    pub fn set_frames(&mut self, frames: &[Frame])
+        requires few { length frames.now ≤ 32 }
+        requires some { 1 ≤ length frames.now }
+        ensures { self.new ≡ frames.now }
+    {
+        let len = frames.len();
+        let most = self.len.max(len);
+        self.frames[..len].copy_from_slice(frames);
+        self.frames[len..most].copy_from_slice(&NO_FRAMES[len..most]);
+        self.len = len;
     }
 
     /// How many frames it has, from 1 to 32.

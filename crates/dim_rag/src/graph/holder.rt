@@ -1,5 +1,5 @@
 //! What is kept of a lock: its hold edge.
-ghost use Rattle.std.specs.Prelude.{◌≡◌, Some, None, option_map};
+ghost use Rattle.std.specs.Prelude.{◌≡◌, ◌≤◌, length, Some, None, option_map};
 ghost use Rattle.dim_rag.specs.declared.entry.Edge.{Edge};
 ghost use Rattle.dim_rag.specs.Tables.{held_by};
 ghost use Rattle.dim_rag.specs.Born.{with_birth};
@@ -51,13 +51,15 @@ impl Holder {
     }
 
     /// From now on this is the hold edge.
-    pub fn set(&mut self, t: Tid, l: Lid, stack: &Stack, birth: u32)
+    pub fn set(&mut self, t: Tid, l: Lid, stack: &[Frame], birth: u32)
+        requires some { 1 ≤ length stack.now }
+        requires few { length stack.now ≤ 32 }
         ensures { self.new ≡ Some record { t = t; l = l; stack = stack.now; birth = birth } }
     {
         self.is_held = true;
         self.edge.t = t;
         self.edge.l = l;
-        self.edge.stack.set(stack);
+        self.edge.stack.set_frames(stack);
         self.edge.birth = birth;
     }
 

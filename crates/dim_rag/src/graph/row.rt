@@ -2,12 +2,14 @@
 ghost use Rattle.std.specs.Prelude.{◌≡◌, vec_len};
 ghost use Rattle.dim_rag.specs.Fits.{IsInRange};
 ghost use Rattle.dim_rag.specs.Tables.{thread_of};
+ghost use Rattle.dim_rag.specs.Shown.{HasStack, shown};
 ghost use Rattle.dim_rag.specs.Born.{with_birth};
 ghost use Rattle.dim_rag.specs.Rows.{idle_row, lock_of, edge_in, broken, row_after, holder_after, rows_after, holders_after, row_may_ask};
 ghost use Rattle.dim_rag.specs.Rows.{HasRoom, count_before, count_after, counts_after, is_quiet};
 
 use crate::births::Births;
-use crate::entry::{Edge, Entry, Mode};
+use crate::entry::{Edge, Mode};
+use crate::entry_ref::{EntryRef, frames_of};
 use crate::graph::holder::Holder;
 use dim_base::{Lid, Tid};
 use dim_stack::{Frame, Stack};
@@ -69,44 +71,48 @@ impl Row {
     }
 
     /// Writes into the row of an entry's thread what the entry changes of it.
-    fn step(&mut self, e: &Entry, place: u32)
-        ensures { self.new ≡ row_after self.old e.now place }
+    fn step(&mut self, e: &EntryRef<'_>, place: u32)
+        requires { HasStack e.now }
+        ensures { self.new ≡ row_after self.old (shown e.now) place }
     {
         match e {
-            Entry::Go { l, stack, .. } => {
+            EntryRef::Go { l, stack, .. } => {
                 self.mode = Mode::Allowed {
                     l: *l,
                     birth: place,
                 };
-                self.stack.set(stack);
+                self.stack.set_frames(stack);
             }
-            Entry::Yield {
+            EntryRef::Yield {
                 l,
                 stack,
                 births,
                 ..
             } => {
                 self.mode = Mode::Yielding { l: *l, place };
-                self.stack.set(stack);
-                self.births = *births;
+                self.stack.set_frames(stack);
+                self.births = **births;
             }
-            Entry::Got { .. } | Entry::Free { .. } | Entry::Took { .. } | Entry::Miss { .. } => {
-                self.mode = Mode::Running;
-            }
-            Entry::End { .. } => self.mode = Mode::Ended { place },
-            Entry::Break { .. } => self.mode = broken(self.mode, place),
-            Entry::Learn { .. } => {}
+            EntryRef::Got { .. }
+            | EntryRef::Free { .. }
+            | EntryRef::Took { .. }
+            | EntryRef::MissBusy { .. }
+            | EntryRef::MissAvoid { .. } => self.mode = Mode::Running,
+            EntryRef::End { .. } => self.mode = Mode::Ended { place },
+            EntryRef::Break { .. } => self.mode = broken(self.mode, place),
+            EntryRef::Learn { .. } => {}
         }
     }
 
     /// Writes the holder of an entry's lock after it, where this is the row of its thread before
     /// it.
-    fn hold(&self, e: &Entry, place: u32, holder: &mut Holder)
-        ensures { holder.new ≡ holder_after self.now e.now place }
+    fn hold(&self, e: &EntryRef<'_>, place: u32, holder: &mut Holder)
+        requires { HasStack e.now }
+        ensures { holder.new ≡ holder_after self.now (shown e.now) place }
     {
         match e {
-            Entry::Got { t, .. } => self.hold_allowed(*t, holder),
-            Entry::Took { t, l, stack } => holder.set(*t, *l, stack, place),
+            EntryRef::Got { t, .. } => self.hold_allowed(*t, holder),
+            EntryRef::Took { t, l, stack } => holder.set(*t, *l, stack, place),
             _ => holder.clear(),
         }
     }
@@ -116,7 +122,7 @@ impl Row {
         ensures { holder.new ≡ edge_in t self.now.mode self.now.stack }
     {
         match self.mode {
-            Mode::Allowed { l, birth } => holder.set(t, l, &self.stack, birth),
+            Mode::Allowed { l, birth } => holder.set(t, l, frames_of(&self.stack), birth),
             _ => holder.clear(),
         }
     }
@@ -137,16 +143,17 @@ pub fn replay(
     rows: &mut Vec<Row>,
     holders: &mut Vec<Holder>,
     counts: &mut Vec<u8>,
-    e: &Entry,
+    e: &EntryRef<'_>,
     place: u32,
 )
-    requires in_range { IsInRange (vec_len rows.old) (vec_len holders.old) e.now }
+    requires stack { HasStack e.now }
+    requires in_range { IsInRange (vec_len rows.old) (vec_len holders.old) (shown e.now) }
     requires each { vec_len counts.old ≡ vec_len holders.old }
-    requires room { HasRoom e.now (count_before counts.old.items e.now) }
-    ensures rows { rows.new.items ≡ rows_after rows.old.items e.now place }
+    requires room { HasRoom (shown e.now) (count_before counts.old.items (shown e.now)) }
+    ensures rows { rows.new.items ≡ rows_after rows.old.items (shown e.now) place }
     ensures holders { holders.new.items
-        ≡ holders_after rows.old.items holders.old.items counts.old.items e.now place }
-    ensures counts { counts.new.items ≡ counts_after counts.old.items e.now }
+        ≡ holders_after rows.old.items holders.old.items counts.old.items (shown e.now) place }
+    ensures counts { counts.new.items ≡ counts_after counts.old.items (shown e.now) }
 {
     if let Some(t) = thread_of(e) {
         if let Some(l) = lock_of(e) {
@@ -161,52 +168,53 @@ pub fn replay(
 }
 
 /// How often its lock is held after an entry, where it was held so often before.
-fn count_after(e: &Entry, count: u8) -> u8
-    requires { HasRoom e.now count }
-    ensures { result ≡ count_after e.now count }
+fn count_after(e: &EntryRef<'_>, count: u8) -> u8
+    requires { HasRoom (shown e.now) count }
+    ensures { result ≡ count_after (shown e.now) count }
 {
     match e {
-        Entry::Got { .. } => 1,
-        Entry::Took { .. } => count + 1,
-        Entry::Free { .. } => count.saturating_sub(1),
+        EntryRef::Got { .. } => 1,
+        EntryRef::Took { .. } => count + 1,
+        EntryRef::Free { .. } => count.saturating_sub(1),
         _ => count,
     }
 }
 
 /// Whether an entry, whose lock is held so often before it, changes but the count.
-fn is_quiet(e: &Entry, count: u8) -> bool
-    ensures { result ≡ is_quiet e.now count }
+fn is_quiet(e: &EntryRef<'_>, count: u8) -> bool
+    ensures { result ≡ is_quiet (shown e.now) count }
 {
     match e {
-        Entry::Took { .. } => count > 0,
-        Entry::Free { .. } => count > 1,
+        EntryRef::Took { .. } => count > 0,
+        EntryRef::Free { .. } => count > 1,
         _ => false,
     }
 }
 
 /// The thread whose row an entry changes.
-fn thread_of(e: &Entry) -> Option<Tid>
-    ensures { result ≡ thread_of e.now }
+fn thread_of(e: &EntryRef<'_>) -> Option<Tid>
+    ensures { result ≡ thread_of (shown e.now) }
 {
     match e {
-        Entry::Go { t, .. }
-        | Entry::Yield { t, .. }
-        | Entry::Got { t, .. }
-        | Entry::Free { t, .. }
-        | Entry::Took { t, .. }
-        | Entry::Miss { t, .. }
-        | Entry::End { t, .. }
-        | Entry::Break { t, .. } => Some(*t),
-        Entry::Learn { .. } => None,
+        EntryRef::Go { t, .. }
+        | EntryRef::Yield { t, .. }
+        | EntryRef::Got { t, .. }
+        | EntryRef::Free { t, .. }
+        | EntryRef::Took { t, .. }
+        | EntryRef::MissBusy { t, .. }
+        | EntryRef::MissAvoid { t, .. }
+        | EntryRef::End { t, .. }
+        | EntryRef::Break { t, .. } => Some(*t),
+        EntryRef::Learn { .. } => None,
     }
 }
 
 /// The lock that an entry takes or frees.
-fn lock_of(e: &Entry) -> Option<Lid>
-    ensures { result ≡ lock_of e.now }
+fn lock_of(e: &EntryRef<'_>) -> Option<Lid>
+    ensures { result ≡ lock_of (shown e.now) }
 {
     match e {
-        Entry::Got { l, .. } | Entry::Free { l, .. } | Entry::Took { l, .. } => Some(*l),
+        EntryRef::Got { l, .. } | EntryRef::Free { l, .. } | EntryRef::Took { l, .. } => Some(*l),
         _ => None,
     }
 }

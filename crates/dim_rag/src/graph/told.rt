@@ -1,7 +1,9 @@
 //! A list of entries that only contracts see.
 ghost use Rattle.std.specs.Prelude.{◌≡◌, ◌+◌, ◌<◌, ◌^◌, [], ◌∷◌, ◌++◌, length};
+ghost use Rattle.dim_rag.specs.Shown.{HasStack, shown};
 
 use crate::entry::{Entry, MissWhy};
+use crate::entry_ref::EntryRef;
 use dim_base::Tid;
 use http_server::Log;
 use std::marker::Model;
@@ -43,12 +45,15 @@ impl Told {
     }
 
     /// One more.
-    pub fn tell(&mut self, e: &Entry)
-        requires { length self.old + 1 < 2 ^ 32 }
-        ensures { self.new ≡ self.old ++ e.now ∷ [] }
+    ///
+    /// The entry is made for the proof alone: as nothing reads it, no code is left of that.
+    pub fn tell(&mut self, e: &EntryRef<'_>)
+        requires few { length self.old + 1 < 2 ^ 32 }
+        requires stack { HasStack e.now }
+        ensures { self.new ≡ self.old ++ shown e.now ∷ [] }
     {
         let _why = MissWhy::Busy { holder: Tid(0) };
-        self.list = self.list.and(e, &());
+        self.list = self.list.and(&e.entry(), &());
         self.count += 1;
     }
 
