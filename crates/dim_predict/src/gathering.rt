@@ -2,6 +2,7 @@
 ghost use Rattle.std.specs.Prelude.{◌≡◌, ◌≤◌, ◌<◌, ◌-◌, ◌++◌, ◌∷◌, [], All, length, map, IfOk, OnOk};
 ghost use Rattle.dim_rag.specs.Fits.{AreInRange, Fits, FitsAfter, IsInRange};
 ghost use Rattle.dim_rag.specs.History.{past, grant};
+ghost use Rattle.dim_rag.specs.Shown.{HasStack, shown};
 ghost use Rattle.dim_predict.specs.Candidates.{AreTooMany, all_noted, different};
 ghost use Rattle.dim_predict.specs.Keys.{IsKey, IsRoll, content_of};
 ghost use Rattle.dim_predict.specs.Nestings.{contents, holds, others, said_by, says};
@@ -12,7 +13,7 @@ use crate::key::Key;
 use crate::predicting::Predict;
 use crate::roll::Roll;
 use dim_base::{Lid, OutOfMemory, Tid};
-use dim_rag::{Edge, Entry, Graph};
+use dim_rag::{Edge, EntryRef, Graph};
 use dim_trace::KeptTrace;
 use std::alloc::Global;
 
@@ -46,27 +47,28 @@ impl Gathering {
     }
 
     /// Takes an entry that comes next. After an error nothing is claimed.
-    fn take(&mut self, e: &Entry) -> Result<(), Predict>
+    fn take(&mut self, e: &EntryRef<'_>) -> Result<(), Predict>
         requires room { 1 ≤ self.old.graph.spare }
+        requires stack { HasStack e.now }
         requires locks { self.old.graph.locks ≤ 256 }
-        requires in_range { IsInRange self.old.graph.threads self.old.graph.locks e.now }
-        requires fits { FitsAfter (past self.old.graph.entries) e.now }
+        requires in_range { IsInRange self.old.graph.threads self.old.graph.locks (shown e.now) }
+        requires fits { FitsAfter (past self.old.graph.entries) (shown e.now) }
         requires roll { IsRoll self.old.roll.list.items self.old.roll.set }
         ensures graph { OnOk result (self.new.graph ≡ record self.old.graph
-            { entries = self.old.graph.entries ++ e.now ∷ []; spare = self.old.graph.spare - 1 }) }
+            { entries = self.old.graph.entries ++ shown e.now ∷ []; spare = self.old.graph.spare - 1 }) }
         ensures roll { OnOk result (IsRoll self.new.roll.list.items self.new.roll.set) }
         ensures noted { OnOk result (map content_of self.new.roll.list.items
             ≡ all_noted (map content_of self.old.roll.list.items)
-            (said_by (past self.old.graph.entries) (grant (e.now ∷ past self.old.graph.entries)))) }
+            (said_by (past self.old.graph.entries) (grant (shown e.now ∷ past self.old.graph.entries)))) }
         ensures many { result ≡ Err Predict.TooMany
             → 4096 < length (all_noted (map content_of self.old.roll.list.items)
-            (said_by (past self.old.graph.entries) (grant (e.now ∷ past self.old.graph.entries)))) }
+            (said_by (past self.old.graph.entries) (grant (shown e.now ∷ past self.old.graph.entries)))) }
     {
         if let Some((t, m)) = granted(&self.graph, e) {
             find_holds(&self.graph, t, &mut self.holds)?;
             note_all(&self.graph, t, m, &self.holds, &mut self.roll)?;
         }
-        self.graph.enter(e);
+        self.graph.enter_ref(e);
         Ok(())
     }
 }
@@ -134,7 +136,7 @@ pub fn gather(
     let count = trace.len();
     let mut gathering = Gathering::new(alloc, threads, locks, count)?;
     for place in 0..count {
-        gathering.take(&trace.entry(place))?;
+        gathering.take(&trace.look(place))?;
     }
     let Gathering {
         graph: _graph,
