@@ -1,7 +1,8 @@
 -- A machine that follows an entry goes on along its own entries.
-use Rattle.std.proofs.Common.{◌≡◌, List, [], ◌∷◌, false, refl, ap, sym, subst, ◌∙◌}
+use Rattle.std.proofs.Common.{◌≡◌, ℕ, List, [], ◌∷◌, false, refl, ap, sym, subst, ◌∙◌}
 use Rattle.std.specs.Prelude.{IsTrue, replicate}
 use Rattle.dim_base.specs.declared.Tid.{Tid}
+use Rattle.dim_stack.specs.declared.Frame.{Frame}
 use Rattle.dim_asm.specs.Code.{Code}
 use Rattle.dim_rag.specs.declared.entry.Entry.{Entry}
 use Rattle.dim_rag.specs.declared.entry.Entry.TheVariants.{Go, Yield, Got, Free, Took, Miss, End, Break, Learn}
@@ -10,8 +11,9 @@ use Rattle.dim_vm.specs.declared.state.State.TheVariants.{Running, Waits, Yields
 use Rattle.dim_vm.specs.Table.{Next}
 use Rattle.dim_vm.specs.Configuration.{Configuration, moved, moved_by, next_of, rested, rested_in, start}
 use Rattle.dim_vm.specs.Fitting.{FitsEntry, FitsOwn, MayEnd}
-use Rattle.dim_vm.proofs.Exports.{fits_more}
-use Rattle.dim_transcribe.specs.Performs.{Stands, StandsWith, held_after, most_units}
+use Rattle.dim_vm.specs.Frames.{stack_of}
+use Rattle.dim_vm.proofs.Exports.{fits_more, rested_again}
+use Rattle.dim_transcribe.specs.Performs.{Stands, StandsWith, calls_after, held_after, most_units}
 
 pub followed : (p : Code) (t : Tid) (c c' : Configuration) (e : Entry) (h : List Entry)
     → FitsEntry p (IsTrue false) (rested p c) e → c' ≡ moved p (rested p c) e
@@ -48,6 +50,16 @@ held_moved c (Learn births) n = refl
 pub held_on : (p : Code) (c c' : Configuration) (e : Entry) → c' ≡ moved p (rested p c) e → c'.holds ≡ held_after e c.holds
 held_on p c c' e after =
     ap (λ (x : Configuration). x.holds) after ∙ held_moved (rested p c) e (next_of p (rested p c)) ∙ ap (held_after e) (held_rested p c)
+
+-- a machine that made the plain instructions which come next, and the calls that it has then
+pub rests : (p : Code) (t : Tid) (c c' : Configuration) (holds : List ℕ) (h : List Entry) → c' ≡ rested p c → StandsWith p t c holds h → StandsWith p t c' holds h
+rests p t c c' holds h there s = record {
+  stands = record { walk = s.stands.walk; leads = s.stands.leads ∙ sym (ap (rested p) there ∙ rested_again p c) };
+  held = s.held ∙ sym (ap (λ (x : Configuration). x.holds) there ∙ held_rested p c);
+}
+
+pub calls_there : (p : Code) (t : Tid) (c c' : Configuration) (h : List Entry) (calls : List Frame) → c' ≡ rested p c → calls ≡ stack_of p c'.context.frames → Stands p t c h → calls_after p t h ≡ calls
+calls_there p t c c' h calls there are s = ap (λ (x : Configuration). stack_of p x.context.frames) (s.leads ∙ sym there) ∙ sym are
 
 -- a machine at its start, which holds no lock
 pub begins : (p : Code) (t : Tid) (c : Configuration) → c ≡ start p t most_units → StandsWith p t c (replicate 256 0) []

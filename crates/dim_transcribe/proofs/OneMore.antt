@@ -1,5 +1,5 @@
 -- The operations so far, and one more.
-use Rattle.std.proofs.Common.{◌≡◌, ℕ, ◌+◌, ◌<◌, ◌≤◌, List, [], ◌∷◌, ◌++◌, length, take, reverse, get_or, refl, ap, sym, subst, ◌∙◌, inl, inr, eqb, arith}
+use Rattle.std.proofs.Common.{◌≡◌, ℕ, ◌+◌, ◌<◌, ◌≤◌, List, [], ◌∷◌, length, take, reverse, get_or, refl, ap, sym, subst, ◌∙◌, inl, inr, eqb, arith}
 use Rattle.std.specs.Prelude.{slice_get, Some, Vec}
 use Rattle.std.specs.declared.alloc.Global.{Global}
 use Rattle.std.proofs.lemmas.List.{take_all, take_more, reverse-append}
@@ -17,7 +17,7 @@ use Rattle.dim_log.specs.declared.log.Spot.{Spot}
 use Rattle.dim_orders.specs.declared.kept.Operation.{Operation}
 use Rattle.dim_transcribe.specs.declared.transcript.Key.{Key}
 use Rattle.dim_transcribe.specs.declared.transcript.Place.{Place}
-use Rattle.dim_transcribe.specs.Performs.{IsStack, Made, Means, PerformsChain, StandFor, Stands, StandsWith, made}
+use Rattle.dim_transcribe.specs.Performs.{IsStack, Made, Means, PerformsChain, StandFor, Stands, StandsWith, calls_after, made}
 
 -- a machine stands where its own entries are those of some operations, and this is what it holds
 pub record HasMade (p : Code) (key : Key) (log : Log) (t : Tid) (os : List Operation) (c : Configuration) (holds : List ℕ) : Type 0 where
@@ -28,13 +28,14 @@ pub record HasMade (p : Code) (key : Key) (log : Log) (t : Tid) (os : List Opera
 pub made_more : (p : Code) (key : Key) (log : Log) (t : Tid) (os : List Operation) (i : ℕ) (d : Operation) (l : Lid) (s : List Frame) (c c' : Configuration) (holds holds' : List ℕ)
     → Means key log (get_or os i d) l s → i < length os
     → ((h : List Entry) → StandsWith p t c holds h → StandsWith p t c' holds' (made p t l s (get_or os i d).deed h))
+    → ((h : List Entry) → Stands p t c h → calls_after p t h ≡ s)
     → HasMade p key log t (take i os) c holds → HasMade p key log t (take (i + 1) os) c' holds'
-made_more p key log t os i d l s c c' holds holds' means lt on m =
+made_more p key log t os i d l s c c' holds holds' means lt on calls m =
     let more : reverse (take (i + 1) os) ≡ get_or os i d ∷ reverse (take i os) = ap reverse (take_more os i d lt) ∙ reverse-append (take i os) (get_or os i d ∷ []) in
     let after : List Entry = made p t l s (get_or os i d).deed m.own in
     record {
       own = after;
-      made = subst (λ (xs : List Operation). Made p key log t xs after) (sym more) (l, s, m.own, means, m.made, refl);
+      made = subst (λ (xs : List Operation). Made p key log t xs after) (sym more) (l, s, m.own, means, m.made, calls m.own m.stands.stands, refl);
       stands = on m.own m.stands;
     }
 

@@ -8,6 +8,7 @@ use Rattle.dim_asm.specs.Code.{Code, thread_count}
 use Rattle.dim_rag.specs.declared.entry.Entry.{Entry}
 use Rattle.dim_rag.specs.declared.entry.Entry.TheVariants.{Go, Got, Free, Took, End}
 use Rattle.dim_rag.specs.declared.entry.Why.TheVariants.{Done}
+use Rattle.dim_vm.specs.Frames.{stack_of}
 use Rattle.dim_vm.specs.Table.{times}
 use Rattle.dim_vm.specs.Configuration.{Configuration, holding, led, rested}
 use Rattle.dim_vm.specs.Fitting.{OwnWalk}
@@ -62,23 +63,30 @@ Means key log o l s = IsLock key o.lock l × IsStack key log o.stack s
 abbrev pub held_times : Code → Tid → List Entry → Lid → ℕ
 held_times p t h l = times (led p t most_units h).holds l.0
 
+-- the calls with which t makes what comes next, where these are its own entries
+abbrev pub calls_after : Code → Tid → List Entry → List Frame
+calls_after p t h = stack_of p (led p t most_units h).context.frames
+
 -- h, with the entries of a Lock by a thread that holds the lock so often
 abbrev pub locked : ℕ → Tid → Lid → List Frame → List Entry → List Entry
 locked zero t l s h = Got t l ∷ Go t l s ∷ h
 locked (suc n) t l s h = Took t l s ∷ h
 
 -- h, with the entries of an operation that was granted at once: a Lock of a lock that t holds is one
--- hold more. A history has the newest entry first. The entry of an Unlock has no stack
+-- hold more. A history has the newest entry first. The entry of an Unlock has no stack: what calls
+-- it is made with, `Made` says
 abbrev pub made : Code → Tid → Lid → List Frame → Deed → List Entry → List Entry
 made p t l s deed.Lock h = locked (held_times p t h l) t l s h
 made p t l s deed.Try h = Took t l s ∷ h
 made p t l s deed.Unlock h = Free t l ∷ h
 
--- by its own entries, t made these operations and nothing else. Both have the newest first
+-- by its own entries, t made these operations and nothing else, each with the calls that are its
+-- stack. Both have the newest first
 abbrev pub Made : Code → Key → Log → Tid → List Operation → List Entry → Type 0
 Made p key log t [] h = h ≡ []
 Made p key log t (o ∷ os) h = (l : Lid) × (s : List Frame) × (before : List Entry)
-    × Means key log o l s × Made p key log t os before × (h ≡ made p t l s o.deed before)
+    × Means key log o l s × Made p key log t os before × (calls_after p t before ≡ s)
+    × (h ≡ made p t l s o.deed before)
 
 -- a thread's own entries are the moves of its machine, and lead to a configuration, once the plain
 -- instructions that come next are made

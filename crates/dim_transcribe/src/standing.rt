@@ -1,5 +1,5 @@
 //! Machines that go on by the entries of an operation, and how often each lock is held then.
-ghost use Rattle.std.specs.Prelude.{◌≡◌, suc, ◌<◌, ◌∷◌, List, IsTrue};
+ghost use Rattle.std.specs.Prelude.{◌≡◌, ℕ, suc, ◌<◌, ◌∷◌, List, IsTrue};
 ghost use Rattle.dim_base.specs.declared.Tid.{Tid};
 ghost use Rattle.dim_asm.specs.Code.{thread_count};
 ghost use Rattle.dim_rag.specs.declared.entry.Entry.{Entry};
@@ -8,7 +8,7 @@ ghost use Rattle.dim_rag.specs.declared.entry.Why.TheVariants.{Done};
 ghost use Rattle.dim_rag.specs.Shown.{shown};
 ghost use Rattle.dim_vm.specs.Configuration.{holding};
 ghost use Rattle.dim_vm.specs.Table.{times};
-ghost use Rattle.dim_transcribe.specs.Performs.{Begins, Stands, StandsWith, held_after, held_times, locked, most_units, made};
+ghost use Rattle.dim_transcribe.specs.Performs.{Begins, Stands, StandsWith, calls_after, held_after, held_times, locked, most_units, made};
 
 use crate::transcript::Move;
 use dim_asm::Program;
@@ -151,6 +151,41 @@ fn takes(
 
 /// Goes on by the entries of an operation, if they tell what the machine does next, and keeps how
 /// often each lock is held.
+fn does(
+    machine: &mut Machine,
+    holds: &mut Holds,
+    program: &Program,
+    t: Tid,
+    deed: Deed,
+    l: Lid,
+    stack: &[Frame],
+) -> bool
+    ensures { IsTrue result → (h : List Entry)
+        → StandsWith program.now t machine.old holds.old h
+        → StandsWith program.now t machine.new holds.new
+        (made program.now t l stack.now deed h) }
+{
+    match deed {
+        Deed::Lock => takes(machine, holds, program, t, l, stack),
+        Deed::Try => follows(machine, holds, program, &EntryRef::Took { t, l, stack }),
+        Deed::Unlock => follows(machine, holds, program, &EntryRef::Free { t, l }),
+    }
+}
+
+/// Makes the plain instructions that come next, and answers whether the machine then has these
+/// calls.
+fn comes_to(machine: &mut Machine, program: &Program, stack: &[Frame]) -> bool
+    ensures stands { (t : Tid) → (holds : List ℕ) → (h : List Entry)
+        → StandsWith program.now t machine.old holds h
+        → StandsWith program.now t machine.new holds h }
+    ensures calls { IsTrue result → (t : Tid) → (h : List Entry)
+        → Stands program.now t machine.old h → calls_after program.now t h ≡ stack.now }
+{
+    machine.rests_at(program, stack)
+}
+
+/// Goes on by the entries of an operation, if they tell what the machine does next and it has the
+/// calls there with which the operation is made, and keeps how often each lock is held.
 pub fn makes(
     machine: &mut Machine,
     holds: &mut Holds,
@@ -159,18 +194,18 @@ pub fn makes(
     deed: Deed,
     by: &Move,
 ) -> bool
-    ensures { IsTrue result → (h : List Entry)
+    ensures made { IsTrue result → (h : List Entry)
         → StandsWith program.now t machine.old holds.old h
         → StandsWith program.now t machine.new holds.new
         (made program.now t by.now.lock by.now.stack deed h) }
+    ensures calls { IsTrue result → (h : List Entry)
+        → Stands program.now t machine.old h → calls_after program.now t h ≡ by.now.stack }
 {
-    let l = by.lock;
     let stack = by.stack.as_slice();
-    match deed {
-        Deed::Lock => takes(machine, holds, program, t, l, stack),
-        Deed::Try => follows(machine, holds, program, &EntryRef::Took { t, l, stack }),
-        Deed::Unlock => follows(machine, holds, program, &EntryRef::Free { t, l }),
+    if !comes_to(machine, program, stack) {
+        return false;
     }
+    does(machine, holds, program, t, deed, by.lock, stack)
 }
 
 /// Whether the machine ends next, by an instruction.

@@ -3,7 +3,9 @@ use Rattle.std.proofs.Common.{◌≡◌, ℕ, zero, suc, ◌+◌, refl, ap, sym,
 use Rattle.dim_asm.specs.Code.{Code}
 use Rattle.dim_vm.specs.declared.context.Context.{Context}
 use Rattle.dim_vm.specs.Table.{Next, Plain, Ends, Wants, Retakes, Frees, Tries, next}
-use Rattle.dim_vm.specs.Configuration.{Course, course, course_by}
+use Rattle.dim_vm.specs.declared.state.State.{State}
+use Rattle.dim_vm.specs.declared.state.State.TheVariants.{Running, Waits, Yields, Ended}
+use Rattle.dim_vm.specs.Configuration.{Configuration, Course, course, course_by, with_course, rested, rested_in}
 use Rattle.dim_vm.specs.Places.{ArePlain, IsOther, IsCourse, CourseLaw}
 
 -- a course goes no further where the next thing isn't plain
@@ -49,3 +51,20 @@ course_law p holds units b r = (
   λ is. subst (IsCourse p holds units b) is (taken p holds units b),
   λ k. only p holds units k.made b r k.paid k.plain k.over,
 )
+
+-- no plain instruction comes next behind those that do
+course_again : (p : Code) (holds : List ℕ) (units : ℕ) (b : Context) → course p holds (course p holds units b).units (course p holds units b).context ≡ course p holds units b
+course_again p holds units b =
+    let r : Course = course p holds units b in
+    only p holds r.units 0 r.context r (omega arith) refl (taken p holds units b).over
+
+again_in : (p : Code) (c : Configuration) (s : State) → c.state ≡ s → rested p (rested_in p c s) ≡ rested_in p c s
+again_in p c Running e =
+    ap (rested_in p (with_course c (course p c.holds c.units c.context))) e
+    ∙ ap (with_course c) (course_again p c.holds c.units c.context)
+again_in p c (Waits l) e = ap (rested_in p c) e
+again_in p c (Yields l) e = ap (rested_in p c) e
+again_in p c (Ended why) e = ap (rested_in p c) e
+
+pub rested_again : (p : Code) (c : Configuration) → rested p (rested p c) ≡ rested p c
+rested_again p c = again_in p c c.state refl

@@ -14,3 +14,5 @@ pub use Rattle.dim_vm.proofs.OwnWalks.{own_walks}
 pub use Rattle.dim_vm.proofs.OwnHolds.{own_holds}
 -- A Yield, and what it says of a list of own entries that ends with it.
 pub use Rattle.dim_vm.proofs.Words.{yield_yields, yields_last}
+-- Where the plain instructions that come next are made, none comes next.
+pub use Rattle.dim_vm.proofs.Courses.{rested_again}

@@ -1,5 +1,5 @@
 //! The calls of a machine.
-ghost use Rattle.std.specs.Prelude.{◌≡◌, ◌<◌, ◌≤◌, [], ◌∷◌, length, IsTrue, ◌↔◌, Ok, Err, Result};
+ghost use Rattle.std.specs.Prelude.{◌≡◌, ◌<◌, ◌≤◌, [], ◌∷◌, length, slice_get, Some, IsTrue, ◌↔◌, Ok, Err, Result};
 ghost use Rattle.dim_vm.specs.Frames as frames;
 ghost use Rattle.dim_vm.specs.Frames.{top_frame, stack_of};
 ghost use Rattle.dim_vm.specs.Tops.{rest};
@@ -137,12 +137,36 @@ impl Frames {
         let mut all = [Frame { func: 0, at: 0 }; 32];
         let len = self.len;
         for i in 0..len {
-            let frame = &self.frames[len - 1 - i];
-            all[i] = Frame {
-                func: program.number(frame.func),
-                at: frame.at,
-            };
+            all[i] = self.frame(program, i);
         }
         Stack::new(&all[..len])
+    }
+
+    /// Whether this is the stack of the calls, innermost first.
+    pub fn is_stack(&self, program: &Program, stack: &[Frame]) -> bool
+        ensures { IsTrue result ↔ (stack.now ≡ stack_of program.now self.now) }
+    {
+        let len = self.len;
+        if stack.len() != len {
+            return false;
+        }
+        for i in 0..len {
+            if stack[i] != self.frame(program, i) {
+                return false;
+            }
+        }
+        true
+    }
+
+    /// The frame of a call, of which 0 is the innermost.
+    fn frame(&self, program: &Program, i: usize) -> Frame
+        requires { i < length self.now }
+        ensures { slice_get (stack_of program.now self.now) i ≡ Some result }
+    {
+        let call = &self.frames[self.len - 1 - i];
+        Frame {
+            func: program.number(call.func),
+            at: call.at,
+        }
     }
 }

@@ -159,6 +159,39 @@ fn a_table_that_is_wrong_by_a_line(rt: HostRuntime) {
     assert!(rt; !performs(&t.program, &t.key, &log, &kept, &t.moves));
 }
 
+// One thread takes a lock at line 7 and frees it, twice. Stack 1 is at line 9, and stack 2 at 11.
+fn frees(alloc: Global, first: u32, second: u32) -> Result<(Log, Kept), Transcribe> {
+    let mut stacks = Vec::new(alloc);
+    for line in [7, 9, 11] {
+        stacks.push(vec![in alloc; spot(0, line)]?)?;
+    }
+    let log = log(alloc, &["f"], stacks)?;
+    let operations = vec![in alloc;
+        operation(Deed::Lock, 0, 0),
+        operation(Deed::Unlock, 0, first),
+        operation(Deed::Lock, 0, 0),
+        operation(Deed::Unlock, 0, second),
+    ]?;
+    Ok((log, kept(vec![in alloc; chain(alloc, operations)]?)))
+}
+
+// Two programs with the same places, of which one frees at line 9 first and one at line 11. By the
+// key the stacks of each would do for the other's log, but its machine doesn't come to them.
+#[test]
+fn frees_in_another_order(rt: HostRuntime) {
+    let alloc = rt.alloc();
+    let (log, kept) = frees(alloc, 1, 2).expect(&rt, "memory");
+    let (_log, other) = frees(alloc, 2, 1).expect(&rt, "memory");
+    let t = transcribe(alloc, &log, &kept).expect(&rt, "a transcript");
+    let u = transcribe(alloc, &log, &other).expect(&rt, "a transcript");
+    let places = places_text(alloc, &t.program, &t.key, &log).expect(&rt, "memory");
+    let same = places_text(alloc, &u.program, &u.key, &log).expect(&rt, "memory");
+    assert_eq!(rt; places.as_slice(), same.as_slice());
+    assert!(rt; performs(&t.program, &t.key, &log, &kept, &t.moves));
+    assert!(rt; !performs(&t.program, &t.key, &log, &other, &u.moves));
+    assert!(rt; performs(&u.program, &u.key, &log, &other, &u.moves));
+}
+
 // The thread of the program goes on behind the first operation.
 #[test]
 fn an_operation_too_many(rt: HostRuntime) {

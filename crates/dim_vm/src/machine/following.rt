@@ -32,17 +32,31 @@ impl Machine {
         ensures moved { IsTrue result
             → self.new ≡ moved program.now (rested program.now self.old) (shown e.now) }
     {
-        if let State::Running = self.state {
-            self.rest(program);
-        }
+        self.rest(program);
         self.go_on(program, e, may_end)
     }
 
-    /// Makes the plain instructions that come next.
+    /// Makes the plain instructions that come next, and answers whether it then has these calls,
+    /// innermost first.
+    ///
+    /// They are those with which it makes what comes after them, also a Free, whose entry has no
+    /// stack. It takes no memory.
+    pub fn rests_at(&mut self, program: &Program, stack: &[Frame]) -> bool
+        ensures value { self.new ≡ rested program.now self.old }
+        ensures calls { IsTrue result
+            ↔ (stack.now ≡ stack_of program.now self.new.context.frames) }
+    {
+        self.rest(program);
+        self.has_stack(program, stack)
+    }
+
+    /// Makes the plain instructions that come next, which only one that runs has.
     fn rest(&mut self, program: &Program)
-        requires { self.old.state ≡ State.Running }
         ensures { self.new ≡ rested program.now self.old }
     {
+        let State::Running = self.state else {
+            return;
+        };
         for _ in 0..self.units {
             match self.step(program) {
                 Step::Plain => {}
@@ -163,8 +177,7 @@ impl Machine {
     fn has_stack(&self, program: &Program, stack: &[Frame]) -> bool
         ensures { IsTrue result ↔ (stack.now ≡ stack_of program.now self.now.context.frames) }
     {
-        let own = self.context.frames.stack(program);
-        stack == own.as_slice()
+        self.context.frames.is_stack(program, stack)
     }
 
     /// Whether a step is to take a lock.

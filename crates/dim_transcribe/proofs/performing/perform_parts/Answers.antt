@@ -1,4 +1,4 @@
-use Rattle.std.proofs.Common.{ℕ, arith}
+use Rattle.std.proofs.Common.{ℕ}
 use Rattle.dim_transcribe.specs.Performs.{PerformsPart}
 use Rattle.dim_transcribe.proofs.OneMore.{below_more}
 use Rattle.dim_transcribe.proofs.performing.perform_parts.Goals as goal

@@ -1,6 +1,5 @@
-use Rattle.std.proofs.Common.{ℕ, ◌<◌, arith}
+use Rattle.std.proofs.Common.{arith}
 use Rattle.std.proofs.lemmas.Option.{slice_get_within}
-use Rattle.dim_asm.specs.Code.{thread_count}
 use Rattle.dim_transcribe.proofs.performing.performs.Goals as goal
 
 pub returns : goal.returns
