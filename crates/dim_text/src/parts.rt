@@ -4,6 +4,7 @@ ghost use Rattle.std.specs.List.{slice_split, position};
 ghost use Rattle.std.specs.Option.{option_map};
 ghost use Rattle.dim_text.specs.Cuts.{sides_of};
 
+use memchr::memchr;
 use std::marker::Model;
 
 // Where the first separator stands.
@@ -11,6 +12,14 @@ fn place_of(bytes: &[u8], separator: u8) -> Option<usize>
     ensures { result ≡ position (λ b. b == separator) bytes.now }
 {
     bytes.iter().position(|b| *b == separator)
+}
+
+// The same place, found faster where it may be far off, as the end of a line is.
+#[tactic(auto, using(crate::proofs::Searching::first_is_position))]
+fn far_place_of(bytes: &[u8], separator: u8) -> Option<usize>
+    ensures { result ≡ position (λ b. b == separator) bytes.now }
+{
+    memchr(separator, bytes)
 }
 
 // The bytes before the first separator, and those behind it.
@@ -86,19 +95,15 @@ impl<'a> Parts<'a> {
 
     /// The next part that has a separator behind it. `None` leaves the one part that is left, if
     /// there is one.
-    #[tactic(auto, using(crate::proofs::Splitting::some_part))]
+    #[tactic(auto, using(crate::proofs::Splitting::split_at_place, crate::proofs::Splitting::split_at_none, crate::proofs::Splitting::some_part))]
     pub fn next_ended(&mut self) -> Option<&'a [u8]>
         ensures { MatchOption result ((length self.old ≤ 1) × (self.new ≡ self.old))
             (λ part. (self.old ≡ part.now ∷ self.new) × (self.new ≢ [])) }
     {
         let rest = self.rest?;
-        match cut(rest, self.separator) {
-            Some((part, behind)) => {
-                self.rest = Some(behind);
-                Some(part)
-            }
-            None => None,
-        }
+        let at = far_place_of(rest, self.separator)?;
+        self.rest = Some(&rest[at + 1..]);
+        Some(&rest[..at])
     }
 
     /// Whether no part is left.
