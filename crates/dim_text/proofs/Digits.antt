@@ -4,6 +4,7 @@ use Rattle.std.specs.Prelude.{not, ℤ, pos, negsuc, nat_lt, ◌==◌, option_an
 use Rattle.std.specs.Int.{w64}
 use Rattle.std.specs.Option.{option_map}
 use Rattle.std.specs.Fmt.{decimal, signed_decimal}
+use Rattle.std.proofs.Math.Nat.{pow-le-pow_right}
 use Rattle.std.proofs.lemmas.Str.Parse.{IsNumeralModel, numerals_by_fold, not_in_digits}
 use Rattle.std.proofs.lemmas.List.{get_or_default}
 use Rattle.std.specs.Int.{IsInRange}
@@ -23,6 +24,13 @@ value_after_ge (c ∷ cs) n = omega (arith, value_after_ge cs (10 * n + (c - 48)
 
 pub value_after-drop : (word : List ℕ) (i n : ℕ) → i < length word → value_after n (drop i word) ≡ value_after (10 * n + (get_or word i 0 - 48)) (drop (i + 1) word)
 value_after-drop word i n h = rw (drop-cons word i 0, add-one) refl
+
+-- nineteen digits have room in 64 bits
+pub digit_fits : (value i size : ℕ) → value < 10 ^ i → i < size → size ≤ 19 → 10 * value + 9 < 2 ^ 64
+digit_fits value i size small within short =
+    let low : i ≤ 18 = omega (arith, within, short) in
+    let most : 10 ^ i ≤ 10 ^ 18 = pow-le-pow_right {n = 10} (omega arith) {i = i} {j = 18} low in
+    omega (arith, most, small)
 
 single_zero : (n : ℕ) → n < 2 ^ 64 → get_or (decimal n) 0 0 ≡ 48 → length (decimal n) ≡ 1
 single_zero zero small e = ap length (decimal_digit 0 (omega arith))

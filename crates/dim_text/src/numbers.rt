@@ -1,9 +1,9 @@
 //! Numbers in decimal digits. Each number has exactly one spelling.
-ghost use Rattle.std.specs.Prelude.{◌≡◌, ◌≤◌, ◌<◌, ◌^◌, ◌-◌, ◌+◌, ◌*◌, ℕ, ℤ, true, if◌then◌else◌, nat_le, option_and_then, Some, None, IfSome, IfNone, FitsSigned, pos};
+ghost use Rattle.std.specs.Prelude.{◌≡◌, ◌≤◌, ◌<◌, ◌^◌, ◌-◌, ◌+◌, ◌*◌, ℕ, ℤ, true, if◌then◌else◌, nat_le, option_and_then, Some, None, IfSome, IfNone, FitsSigned, length, pos};
 ghost use Rattle.std.specs.Int.{w64};
 ghost use Rattle.std.specs.Option.{option_map};
 ghost use Rattle.std.specs.Fmt.{decimal, signed_decimal};
-ghost use Rattle.dim_text.specs.Numerals.{are_digits, is_number, value_of, number_of, number_from, below_zero, signed_of};
+ghost use Rattle.dim_text.specs.Numerals.{are_digits, has_leading_zero, is_number, value_of, number_of, number_from, below_zero, signed_of};
 
 fn are_digits(word: &[u8]) -> bool
     ensures { result ≡ are_digits word.now }
@@ -11,13 +11,26 @@ fn are_digits(word: &[u8]) -> bool
     word.iter().all(|byte| byte.is_ascii_digit())
 }
 
+// Whether a zero stands before other digits.
+fn is_padded(word: &[u8]) -> bool
+    ensures { result ≡ has_leading_zero word.now }
+{
+    word.len() > 1 && word[0] == b'0'
+}
+
 /// Whether a word is a number: `0`, or decimal digits of which the first isn't 0. It may have any
 /// length.
 pub fn is_number(word: &[u8]) -> bool
     ensures { result ≡ is_number word.now }
 {
-    let padded = word.len() > 1 && word[0] == b'0';
-    !word.is_empty() && !padded && are_digits(word)
+    !word.is_empty() && !is_padded(word) && are_digits(word)
+}
+
+// A value where it is at most max.
+fn at_most(value: u64, max: u64) -> Option<u64>
+    ensures { result ≡ (if nat_le value max then Some value else None) }
+{
+    if value <= max { Some(value) } else { None }
 }
 
 // A number with one digit more, where it is at most max.
@@ -28,7 +41,7 @@ fn with_digit(value: u64, digit: u8, max: u64) -> Option<u64>
         ≡ (if nat_le (10 * value + (digit - 48)) max then Some (10 * value + (digit - 48)) else None) }
 {
     let next = value.checked_mul(10)?.checked_add(u64::from(digit - b'0'))?;
-    if next <= max { Some(next) } else { None }
+    at_most(next, max)
 }
 
 // The value of digits, where it is at most max.
@@ -44,14 +57,53 @@ fn value(digits: &[u8], max: u64) -> Option<u64>
     Some(value)
 }
 
+// The value of a word of digits, which is so short that it has room in 64 bits.
+fn short_value(word: &[u8]) -> Option<u64>
+    requires { length word.now ≤ 19 }
+    ensures { result ≡ (if are_digits word.now then Some (value_of word.now) else None) }
+{
+    let mut value = 0;
+    for byte in word {
+        if !byte.is_ascii_digit() {
+            return None;
+        }
+        value = 10 * value + u64::from(*byte - b'0');
+    }
+    Some(value)
+}
+
+// The number that a short word is, where it is at most max.
 #[tactic(auto, unfolding(crate::specs::Numerals::number_of))]
-fn number_within(word: &[u8], max: u64) -> Option<u64>
+fn short_number(word: &[u8], max: u64) -> Option<u64>
+    requires { length word.now ≤ 19 }
+    ensures { result ≡ number_of max word.now }
+{
+    if word.is_empty() || is_padded(word) {
+        return None;
+    }
+    at_most(short_value(word)?, max)
+}
+
+// The same for a word of any length.
+#[tactic(auto, unfolding(crate::specs::Numerals::number_of))]
+fn long_number(word: &[u8], max: u64) -> Option<u64>
     ensures { result ≡ number_of max word.now }
 {
     if !is_number(word) {
         return None;
     }
     value(word, max)
+}
+
+// One pass over a short word, and two over a longer one.
+fn number_within(word: &[u8], max: u64) -> Option<u64>
+    ensures { result ≡ number_of max word.now }
+{
+    if word.len() <= 19 {
+        short_number(word, max)
+    } else {
+        long_number(word, max)
+    }
 }
 
 /// The number that a word is, where it is at most `max`.
