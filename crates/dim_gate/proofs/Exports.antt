@@ -16,6 +16,10 @@ pub use Rattle.dim_gate.proofs.Lasting.{cycle_law}
 pub use Rattle.dim_gate.proofs.StuckSteps.{stuck_law}
 -- The cycles and the starvations that a legal history learns.
 pub use Rattle.dim_gate.proofs.Learns.{kept_few, learn_law}
+pub use Rattle.dim_gate.proofs.LearntEdges.{learnt_edges_law}
+-- The known signatures, by their numbers, and the stacks of those of cycles and of starvations.
+pub use Rattle.dim_gate.proofs.ByPlace.{known_law}
+pub use Rattle.dim_gate.proofs.CycleStacks.{signature_law}
 -- What is still to be learnt after a Learn.
 pub use Rattle.dim_gate.proofs.Unlearnt.{is_new, learnt_done, missing_before, none_chosen, none_stays}
 -- When each starvation that is learnt is broken out of at once.

@@ -1,6 +1,6 @@
 -- Legal, immune and known, said by places. A list has its newest entry first, so in
 -- `newer ++ (e ∷ older)` the place of e is `length older`.
-use Rattle.std.specs.Prelude.{◌≡◌, ℕ, ◌+◌, List, ◌∷◌, ◌++◌, length, slice_get, map, Some}
+use Rattle.std.specs.Prelude.{◌≡◌, ◌⊎◌, ℕ, ◌+◌, List, ◌∷◌, ◌++◌, length, slice_get, map, Some}
 use Rattle.dim_rag.specs.declared.entry.Edge.{Edge}
 use Rattle.dim_rag.specs.declared.entry.Entry.{Entry}
 use Rattle.dim_rag.specs.declared.entry.Entry.TheVariants.{Learn}
@@ -54,3 +54,14 @@ pub record SignatureLaw : Type 0 where
       → learnt_sig depth (births c) h ≡ fresh depth (sorted (map (λ e. e.stack) c))
   pub starvation : (n m depth : ℕ) (h : List Entry) (c : List Edge) → IsStarvation n m h c
       → learnt_sig depth (births c) h ≡ fresh depth (sorted (map (λ e. e.stack) c))
+
+-- these edges are a cycle or a starvation at h, among n threads and m locks
+abbrev pub IsCycleOrStarvation : ℕ → ℕ → List Entry → List Edge → Type 0
+IsCycleOrStarvation n m h c = IsCycle (waits n h) c ⊎ IsStarvation n m h c
+
+-- each Learn of a legal list has the births of a cycle or of a starvation that stands at the
+-- entries before it
+abbrev pub LearntEdgesLaw : Type 0
+LearntEdgesLaw = (c : Constants) (newer : List Entry) (places : List ℕ) (older : List Entry)
+    → Legal c (newer ++ (Learn places ∷ older))
+    → (edges : List Edge) × IsCycleOrStarvation c.threads c.locks older edges × (births edges ≡ places)
