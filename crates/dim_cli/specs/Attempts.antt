@@ -6,9 +6,10 @@ use Rattle.dim_history_file.specs.Judging.{history_of}
 use Rattle.dim_history_file.specs.Spelling.{history_text}
 use Rattle.dim_rag.specs.declared.entry.Entry.{Entry}
 use Rattle.dim_words.specs.Words.{ImmunizeWords}
-use Rattle.dim_commands.specs.Immunize.{last_of, entries_at, history_at, AreLawful}
+use Rattle.dim_commands.specs.Immunize.{last_of, sigs_at, entries_at, history_at, AreLawful}
 use Rattle.dim_commands.specs.Output.{Inputs, trace_by}
 use Rattle.dim_commands.specs.Taking.{IsUnder}
+use Rattle.dim_cli.specs.ByPlaces.{ByPlaces}
 use Rattle.dim_cli.specs.Headline.{outcome_status, Comes}
 
 -- As many attempts are made as there is reason for, of the program and from the history, both as
@@ -16,8 +17,9 @@ use Rattle.dim_cli.specs.Headline.{outcome_status, Comes}
 -- the signatures that the one before left: they execute the program on these, and are immune; at
 -- their end nobody yields, and the signature of every cycle that ever stood is known. The history
 -- written has the signatures after all attempts, first those read, with the yields of all attempts
--- counted, and reads back. The status is that of the outcome of the last one, or 8 where the report
--- could not be put.
+-- counted, and at last one for each Learn of the last attempt; it reads back, and is no longer than
+-- a fetch takes. The status is that of the outcome of the last one, 3 exactly where its entries end
+-- with a cycle, or 8 where the report could not be put.
 pub record AttemptsHeadline (w : ImmunizeWords) (status : ℕ) (before after : Named) : Type 0 where
   pub program : List ℕ
   pub history : List ℕ
@@ -32,6 +34,7 @@ pub record AttemptsHeadline (w : ImmunizeWords) (status : ℕ) (before after : N
   pub trace : after w.run.trace ≡ Some (trace_by inputs w.run.settings (entries_at inputs w.run.settings last))
   pub new_history : after w.run.new_history ≡ Some (history_text (history_at inputs w.run.settings (suc last)))
   pub status_is : (status ≡ outcome_status inputs (entries_at inputs w.run.settings last)) ⊎ (status ≡ 8)
+  pub by_places : ByPlaces inputs (sigs_at inputs w.run.settings last) w.run.settings (entries_at inputs w.run.settings last) status
 
 -- the entries of the last attempt, by tests
 abbrev pub last_entries : ImmunizeWords → Inputs → List Entry

@@ -8,3 +8,5 @@ pub mod Using
 pub mod Sound
 pub mod Taking
 pub mod Endings
+mod Lengths
+pub mod Exports

@@ -8,3 +8,4 @@ pub mod Reader
 pub mod Seen
 pub mod Signing
 pub mod Places
+pub mod Lengths

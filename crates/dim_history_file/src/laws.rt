@@ -3,6 +3,7 @@
 ghost use Rattle.std.specs.Prelude.{◌≡◌, ℕ, List, Ok};
 ghost use Rattle.dim_history_file.specs.Value.{NamedSig, migrated};
 ghost use Rattle.dim_history_file.specs.Judging.{history_of};
+ghost use Rattle.dim_history_file.specs.Lengths.{LengthLaw};
 ghost use Rattle.dim_history_file.specs.Places.{FoundLaw, OnlyLaw};
 ghost use Rattle.dim_history_file.specs.Spelling.{history_text, text_in};
 ghost use Rattle.dim_history_file.specs.Grammar.{HasHead, IsHistory, IsTextOf};
@@ -26,6 +27,13 @@ pub fn reading_law()
         → history_of (history_text sigs) ≡ Ok sigs }
     ensures migrated { (sigs : List NamedSig) → IsHistory sigs
         → history_of (text_in One sigs) ≡ Ok (migrated sigs) }
+{}
+
+/// How long texts are: what is written of a history that was read has at most five bytes more a
+/// signature, and what is written of one that has grown has at most ten more a signature, 31,775 for
+/// each new one, and four.
+pub fn length_law()
+    ensures { LengthLaw }
 {}
 
 /// Which fault a text has, by the places of its lines: where all lines before one are taken, each

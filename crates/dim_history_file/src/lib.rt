@@ -17,7 +17,7 @@ mod writing;
 
 pub use fault::{FileFault, FileKind, ReadFault};
 pub use history::History;
-pub use laws::{first_fault_law, reading_law, spelling_law};
+pub use laws::{first_fault_law, length_law, reading_law, spelling_law};
 pub use reading::read;
 pub use recent::Recent;
 pub use renaming::rename;

@@ -1,5 +1,5 @@
 -- The signatures that are known after a run, by places.
-use Rattle.std.proofs.Common.{◌≡◌, ℕ, ◌+◌, true, false, refl, ap, sym, ◌∙◌, subst, ◌⊎◌, inl, inr, List, ◌∷◌, ◌++◌, length, map, Option, Some, None}
+use Rattle.std.proofs.Common.{◌≡◌, ℕ, ◌+◌, ◌<◌, ◌≤◌, true, false, refl, ap, sym, ◌∙◌, subst, ◌⊎◌, inl, inr, arith, List, [], ◌∷◌, ◌++◌, length, map, Option, Some, None}
 use Rattle.std.specs.Prelude.{slice_get, option_map, is_some}
 use Rattle.std.proofs.lemmas.Bool.{false≢true}
 use Rattle.std.proofs.lemmas.List.{length-map}
@@ -7,7 +7,7 @@ use Rattle.std.proofs.lemmas.Option.{slice_get-map}
 use Rattle.dim_stack.specs.declared.Frame.{Frame}
 use Rattle.dim_rag.specs.declared.entry.Edge.{Edge}
 use Rattle.dim_rag.specs.declared.entry.Entry.{Entry}
-use Rattle.dim_rag.specs.declared.entry.Entry.TheVariants.{Learn}
+use Rattle.dim_rag.specs.declared.entry.Entry.TheVariants.{Go, Yield, Got, Free, Took, Miss, End, Break, Learn}
 use Rattle.dim_rag.specs.History.{past}
 use Rattle.dim_rag.specs.Steps.{IsCycle, births}
 use Rattle.dim_rag.specs.Waits.{waits}
@@ -16,10 +16,12 @@ use Rattle.dim_signature.specs.Catalogue.{number_of}
 use Rattle.dim_signature.proofs.Exports.{found}
 use Rattle.dim_gate.specs.Gate.{Constants}
 use Rattle.dim_gate.specs.Known.{Known, knowns, known_sigs, learnt_sig, stacks_of as stacks_born}
+use Rattle.dim_gate.specs.Learns.{learns}
 use Rattle.dim_gate.specs.Legal.{Legal}
+use Rattle.dim_gate.specs.Starved.{kept_free}
 use Rattle.dim_gate.specs.ByPlace.{IsCycleOrStarvation}
 use Rattle.dim_gate.specs.Settled.{is_known}
-use Rattle.dim_gate.proofs.Exports.{cycle_law, known_law, learnt_edges_law, signature_law}
+use Rattle.dim_gate.proofs.Exports.{cycle_law, known_law, learnt_edges_law, legal_made, signature_law}
 use Rattle.dim_execution.specs.Executes.{Executes}
 use Rattle.dim_run.specs.Grown.{yields_of, grown}
 use Rattle.dim_run.specs.Learnt.{stacks_of, next_number, IsGrownAt, IsLearnt, AreLearnt, LearntLaw}
@@ -35,6 +37,23 @@ known_sig loaded depth h i k q = slice_get-map (λ (x : Known). x.sig) (knowns l
 of_edges : (c : Constants) (h : List Entry) (edges : List Edge) → IsCycleOrStarvation c.threads c.locks h edges → learnt_sig c.depth (births edges) h ≡ fresh c.depth (stacks_of edges)
 of_edges c h edges (inl k) = signature_law.cycle c.threads c.depth h edges k
 of_edges c h edges (inr k) = signature_law.starvation c.threads c.locks c.depth h edges k
+
+-- no more are learnt than may be known
+few_learns : (c : Constants) → length c.loaded ≤ c.cap → (h : List Entry) → Legal c h → next_number c h ≤ c.cap
+few_learns c low [] k = omega (arith, low)
+few_learns c low (Learn births ∷ h) k =
+    let room : length (known_sigs c.loaded c.depth h) + kept_free c.threads c.locks h births < c.cap = (legal_made c h (Learn births) k.0).3 in
+    let known : length (known_sigs c.loaded c.depth h) ≡ length (knowns c.loaded c.depth h) = length-map (knowns c.loaded c.depth h) (λ (x : Known). x.sig) in
+    let size : length (knowns c.loaded c.depth h) ≡ length c.loaded + length (learns h) = known_law.count c.loaded c.depth h in
+    omega (arith, room, known, size)
+few_learns c low (Go t l s ∷ h) k = few_learns c low h k.1
+few_learns c low (Yield t l s sig b ∷ h) k = few_learns c low h k.1
+few_learns c low (Got t l ∷ h) k = few_learns c low h k.1
+few_learns c low (Free t l ∷ h) k = few_learns c low h k.1
+few_learns c low (Took t l s ∷ h) k = few_learns c low h k.1
+few_learns c low (Miss t l s why ∷ h) k = few_learns c low h k.1
+few_learns c low (End t why ∷ h) k = few_learns c low h k.1
+few_learns c low (Break set t ∷ h) k = few_learns c low h k.1
 
 -- who is known has a number
 numbered : (sigs : List Sig) (stacks : List (List Frame)) → is_some (number_of sigs stacks) ≡ true → (i : ℕ) × (s : Sig) × (slice_get sigs i ≡ Some s) × (s.stacks ≡ stacks)
@@ -62,6 +81,9 @@ module _ (r : Rules) (entries : List Entry) (k : Executes (gate_of r) r.program 
       grown_law.count r.loaded r.depth entries
       ∙ length-map (knowns r.loaded r.depth h) (λ (x : Known). x.sig)
       ∙ known_law.count r.loaded r.depth h
+
+  few : length sigs ≤ c.cap
+  few = let n = count in let l : next_number c h ≤ c.cap = few_learns c (omega arith) h k.legal in omega (arith, n, l)
 
   loaded : (i : ℕ) (s : Sig) → slice_get r.loaded i ≡ Some s → IsGrownAt entries sigs i s
   loaded i s q = grown_at i s (known_sig r.loaded r.depth h i (record { sig = s; since = 0 }) (known_law.loaded r.loaded r.depth h i s q))
@@ -101,7 +123,7 @@ module _ (r : Rules) (entries : List Entry) (k : Executes (gate_of r) r.program 
       ((complete_law r entries k).cycles newer older (sym is) edges cycle)
 
   pub are_learnt : AreLearnt c entries sigs
-  are_learnt = record { count = count; loaded = loaded; learnt = learnt; cycles = cycles }
+  are_learnt = record { count = count; few = few; loaded = loaded; learnt = learnt; cycles = cycles }
 
 pub learnt_law : LearntLaw
 learnt_law r entries k = are_learnt r entries k

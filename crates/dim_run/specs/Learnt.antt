@@ -1,6 +1,6 @@
 -- The signatures that are known after a run, by places. A list of past entries has its newest entry
 -- first, so in `newer ++ (e ∷ older)` the place of e is `length older`.
-use Rattle.std.specs.Prelude.{◌≡◌, ℕ, ◌+◌, List, ◌∷◌, ◌++◌, length, slice_get, map, Some}
+use Rattle.std.specs.Prelude.{◌≡◌, ◌≤◌, ℕ, ◌+◌, List, ◌∷◌, ◌++◌, length, slice_get, map, Some}
 use Rattle.dim_stack.specs.declared.Frame.{Frame}
 use Rattle.dim_rag.specs.declared.entry.Edge.{Edge}
 use Rattle.dim_rag.specs.declared.entry.Entry.{Entry}
@@ -39,9 +39,10 @@ pub record IsLearnt (c : Constants) (entries : List Entry) (sigs : List Sig) (pl
   pub sig : IsGrownAt entries sigs (next_number c h) (fresh c.depth (stacks_of edges))
 
 -- Signatures after entries are those that were loaded, by their numbers, and then one for each
--- Learn. Among them is that of each cycle that stands at some moment.
+-- Learn, no more than may be known. Among them is that of each cycle that stands at some moment.
 pub record AreLearnt (c : Constants) (entries : List Entry) (sigs : List Sig) : Type 0 where
   pub count : length sigs ≡ next_number c (past entries)
+  pub few : length sigs ≤ c.cap
   pub loaded : (i : ℕ) (s : Sig) → slice_get c.loaded i ≡ Some s → IsGrownAt entries sigs i s
   pub learnt : (newer : List Entry) (places : List ℕ) (older : List Entry)
       → newer ++ (Learn places ∷ older) ≡ past entries → IsLearnt c entries sigs places older
