@@ -11,5 +11,5 @@ invariant_of-self c =
     let most = c.max-most.result in
     let own = c.self.inside in
     let none : c.copy_from_slice-2.new.self ≡ replicate (most - len) no_frame =
-        c.copy_from_slice-2.ensures.after ∙ ap (take (most - len)) (drop-replicate len 32 no_frame) ∙ take-replicate (most - len) (32 - len) no_frame (grind arith) in
+    c.copy_from_slice-2.ensures.after ∙ ap (take (most - len)) (drop-replicate len 32 no_frame) ∙ take-replicate (most - len) (32 - len) no_frame (grind arith) in
     (c.requires.some, blanked own.len most own.frames c.args.frames.now c.copy_from_slice.new.self c.copy_from_slice-2.new.self c.self.invariant.1 c.copy_from_slice.ensures.after (grind arith) (grind arith) (grind arith) none)
