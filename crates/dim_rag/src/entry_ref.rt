@@ -129,6 +129,9 @@ impl<'a> EntryRef<'a> {
     }
 
     /// The entry that it shows.
+    ///
+    /// It is inlined, so that no code is left of it where nothing reads the entry.
+    #[inline(always)]
     pub fn entry(&self) -> Entry
         requires { HasStack self.now }
         ensures { result ≡ shown self.now }

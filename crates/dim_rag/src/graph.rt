@@ -105,7 +105,16 @@ impl Graph {
             ≡ record self.old
             { entries = self.old.entries ++ e.now ∷ []; spare = self.old.spare - 1 } }
     {
-        self.enter_ref(&EntryRef::of(e));
+        let place = self.told.len();
+        replay(
+            &mut self.rows,
+            &mut self.holders,
+            &mut self.counts,
+            &EntryRef::of(e),
+            place,
+        );
+        self.told.tell(e);
+        self.spare -= 1;
     }
 
     /// Takes an entry that fits and is given by reference, while `spare` is at least 1. It costs the
@@ -127,7 +136,7 @@ impl Graph {
             e,
             place,
         );
-        self.told.tell(e);
+        self.told.tell_ref(e);
         self.spare -= 1;
     }
 

@@ -45,16 +45,23 @@ impl Told {
     }
 
     /// One more.
-    ///
-    /// The entry is made for the proof alone: as nothing reads it, no code is left of that.
-    pub fn tell(&mut self, e: &EntryRef<'_>)
+    pub fn tell(&mut self, e: &Entry)
+        requires { length self.old + 1 < 2 ^ 32 }
+        ensures { self.new ≡ self.old ++ e.now ∷ [] }
+    {
+        let _why = MissWhy::Busy { holder: Tid(0) };
+        self.list = self.list.and(e, &());
+        self.count += 1;
+    }
+
+    /// One more, which is given by reference. It is made for the proof alone.
+    pub fn tell_ref(&mut self, e: &EntryRef<'_>)
         requires few { length self.old + 1 < 2 ^ 32 }
         requires stack { HasStack e.now }
         ensures { self.new ≡ self.old ++ shown e.now ∷ [] }
     {
-        let _why = MissWhy::Busy { holder: Tid(0) };
-        self.list = self.list.and(&e.entry(), &());
-        self.count += 1;
+        let e = e.entry();
+        self.tell(&e);
     }
 
     /// How many they are.
