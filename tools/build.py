@@ -90,8 +90,10 @@ def copied(crates, folder):
 
 
 def put(file, copy):
-    """Puts a file in a second place, where it can without a copy of its bytes."""
+    """Puts a file in a second place, where it can without a copy of its bytes. (A stamp is written anew where it lies.)"""
     try:
+        if os.path.basename(file) == "stamp":
+            raise OSError
         os.link(file, copy)
     except OSError:
         shutil.copy2(file, copy)
