@@ -4,6 +4,7 @@ ghost use Rattle.dim_text.specs.Naming.{IsName};
 ghost use Rattle.dim_stack.specs.Names.{HasNamesOf, IsTable, number_of, table_of};
 
 use dim_base::{OutOfMemory, Word};
+use dim_text::is_word;
 use indexmap::IndexSet;
 use std::alloc::Global;
 use std::marker::Model;
@@ -110,7 +111,7 @@ impl Names {
     fn has_number(&self, name: &[u8], number: u32) -> bool
         ensures { IsTrue result → number_of self.now name.now ≡ Some number }
     {
-        number < self.len() && self.name(number).as_slice() == name
+        number < self.len() && is_word(self.name(number).as_slice(), name)
     }
 
     /// The name with a number. It needs `n` below the length.

@@ -1,5 +1,6 @@
 mod Cutting
 mod Digits
+mod Equal
 mod NameLemmas
 mod Placing
 mod ReadingLemmas
