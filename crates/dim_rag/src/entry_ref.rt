@@ -68,6 +68,9 @@ pub enum EntryRef<'a> {
 
 impl<'a> EntryRef<'a> {
     /// An entry by reference.
+    ///
+    /// It is inlined, so that the kind of an entry is asked for once where it is known.
+    #[inline(always)]
     pub fn of(e: &'a Entry) -> EntryRef<'a>
         ensures entry { shown result ≡ e.now }
         ensures stack { HasStack result }
@@ -106,6 +109,7 @@ impl<'a> EntryRef<'a> {
     }
 
     /// A Miss by reference.
+    #[inline(always)]
     fn of_miss(t: Tid, l: Lid, stack: &'a Stack, why: &'a MissWhy) -> EntryRef<'a>
         ensures entry { shown result ≡ Miss t l stack.now why.now }
         ensures stack { HasStack result }
