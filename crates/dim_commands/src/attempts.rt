@@ -17,7 +17,7 @@ ghost use Rattle.dim_commands.specs.Lawful.{ReadsBack};
 ghost use Rattle.dim_commands.specs.Report.{ran};
 
 use crate::report::{Report, ran, word_of};
-use crate::storing::Texts;
+use crate::storing::RunTexts;
 use dim_asm::Program;
 use dim_base::{Bytes, OutOfMemory};
 use dim_history_file::write;
@@ -75,7 +75,7 @@ pub fn texts_after(
     program: &Program,
     made: &KeptImmunized,
     s: &Settings,
-) -> Result<Texts, OutOfMemory>
+) -> Result<RunTexts, OutOfMemory>
     requires settings { AreSettings s.now }
     requires bound { IsBound made.now.history.names program.now }
     requires near { AreNear made.now.history.catalogue.sigs }
@@ -98,5 +98,5 @@ pub fn texts_after(
     let (names, tables) = (&made.history.names, &made.run.tables);
     let trace = write_tables(alloc, program, names, s.fuel, s.depth, tables)?;
     let new_history = write(alloc, &made.history)?;
-    Ok(Texts { new_history, trace })
+    Ok(RunTexts { new_history, trace })
 }

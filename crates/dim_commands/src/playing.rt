@@ -23,7 +23,7 @@ ghost use Rattle.dim_trace.specs.Text.{trace_text};
 ghost use Rattle.dim_commands.specs.Lawful.{ReadsBack};
 
 use crate::inputs::Inputs;
-use crate::storing::Texts;
+use crate::storing::RunTexts;
 use dim_base::OutOfMemory;
 use dim_gate::laws::immune_law;
 use dim_history_file::{History, write};
@@ -130,7 +130,7 @@ pub fn texts_of(
     both: Inputs,
     run: KeptRun,
     s: &Settings,
-) -> Result<Texts, OutOfMemory>
+) -> Result<RunTexts, OutOfMemory>
     requires spelled { AreSpelled both.history.names run.catalogue.sigs }
     requires settings { AreSettings s.now }
     requires few { length run.tables.entries ≤ 1048576 }
@@ -164,5 +164,5 @@ pub fn texts_of(
     let History { names, .. } = history;
     let known = kept(names, catalogue);
     let new_history = write(alloc, &known)?;
-    Ok(Texts { new_history, trace })
+    Ok(RunTexts { new_history, trace })
 }

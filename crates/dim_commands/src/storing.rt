@@ -11,7 +11,7 @@ use std::alloc::Global;
 
 /// The texts that a run leaves.
 #[derive(Drop)]
-pub struct Texts {
+pub struct RunTexts {
     pub new_history: Bytes,
     pub trace: Bytes,
 }
@@ -19,7 +19,7 @@ pub struct Texts {
 /// What a run stores and puts.
 #[derive(Drop)]
 pub struct Output {
-    pub texts: Texts,
+    pub texts: RunTexts,
     pub report: Report,
 }
 
