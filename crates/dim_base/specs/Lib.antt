@@ -1,6 +1,7 @@
 pub mod Causes
 pub mod FailingCalls
 pub mod Files
+pub mod Filled
 pub mod MemFiles
 pub mod MemSink
 pub mod Sink

@@ -1,7 +1,7 @@
 //! Frames and call stacks: how far two stacks agree, and how stacks are ordered.
 #![tactic(auto)]
 
-ghost use Rattle.std.specs.Prelude.{◌≡◌, ◌<◌, ◌≤◌, length, slice_get, take};
+ghost use Rattle.std.specs.Prelude.{◌≡◌, ◌<◌, ◌≤◌, [], ◌∷◌, ◌++◌, length, slice_get, take};
 
 mod agreement;
 mod name_laws;
@@ -49,15 +49,16 @@ impl Model for Stack {
 
     ghost Value = { List Frame };
 
-    ghost use Rattle.dim_stack.specs.Filled.{no_frame, IsFilled, filled_back, len_back};
+    ghost use Rattle.dim_base.specs.Filled.{IsFilled, filled_back, len_back};
+    ghost use Rattle.dim_stack.specs.Filled.{no_frame};
 
     ghost view = { λ s. take s.len s.frames };
 
-    ghost invariant = { λ s. (1 ≤ s.len) × IsFilled s.len s.frames };
+    ghost invariant = { λ s. (1 ≤ s.len) × IsFilled 32 no_frame s.len s.frames };
 
     ghost inverse = { λ fs. record { len = length fs; frames = fs ++ replicate (32 - length fs) no_frame } };
 
-    ghost inverse_ok = { λ s h i. record { len = len_back s.len s.frames h.1 i; frames = filled_back s.len s.frames h.1 i } };
+    ghost inverse_ok = { λ s h i. record { len = len_back 32 no_frame s.len s.frames h.1 i; frames = filled_back 32 no_frame s.len s.frames h.1 i } };
 }
 
 impl Stack {
@@ -94,6 +95,15 @@ impl Stack {
         self.frames[..len].copy_from_slice(frames);
         self.frames[len..most].copy_from_slice(&NO_FRAMES[len..most]);
         self.len = len;
+    }
+
+    /// Puts a frame behind the others, as the outermost. It has fewer than 32.
+    pub fn push(&mut self, frame: Frame)
+        requires { length self.old < 32 }
+        ensures { self.new ≡ self.old ++ frame ∷ [] }
+    {
+        self.frames[self.len] = frame;
+        self.len += 1;
     }
 
     /// How many frames it has, from 1 to 32.
