@@ -17,7 +17,7 @@ pub use files::{Fetch, Files, Store};
 pub use memory_files::{MemFiles, SureFiles};
 pub use memory_sink::{MemSink, SureSink};
 pub use out_of_memory::OutOfMemory;
-pub use outside::{DirFiles, StdSink};
+pub use outside::{DirFiles, StdSink, words_after_name};
 pub use sink::{Put, Sink};
 pub use text::{Bytes, Word};
 

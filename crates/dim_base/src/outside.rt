@@ -1,12 +1,30 @@
-//! The files of the current folder, and standard output. They tell nothing of what they hold.
+//! The words of the command line, the files of the current folder, and standard output. They tell
+//! nothing of what they hold.
 ghost use Rattle.std.specs.Prelude.{◌≡◌, None};
 
 use crate::replacing::put_under;
 use crate::streams::{read_all, write_all};
-use crate::{Bytes, Fetch, Files, Put, Sink, Store, Word};
+use crate::{Bytes, Fetch, Files, OutOfMemory, Put, Sink, Store, Word};
 use std::alloc::Global;
+use std::env::{self, Env};
 use std::io::{self, ErrorKind};
 use std::{fs, rt};
+
+/// The words behind the program's name. Where one is no text, it is as if there were none.
+pub fn words_after_name<R: Env + AllocGlobal>(rt: &R) -> Result<Vec<Word>, OutOfMemory> {
+    let alloc = rt.alloc();
+    let mut words = Vec::new(alloc);
+    match env::args(rt) {
+        Ok(args) => {
+            for arg in args.skip(1) {
+                words.push(Word::of(alloc, arg.as_str())?)?;
+            }
+            Ok(words)
+        }
+        Err(e) if e.kind() == ErrorKind::OutOfMemory => Err(OutOfMemory),
+        Err(_) => Ok(words),
+    }
+}
 
 /// The files of the current folder. A store replaces a plain file by one that was written beside
 /// it; what can't be replaced is written over.

@@ -5,12 +5,10 @@ mod draw;
 mod stop;
 mod words;
 
-use dim_base::{DirFiles, OutOfMemory, Put, Sink, StdSink, Word};
+use dim_base::{DirFiles, Put, Sink, StdSink, words_after_name};
 use dim_cli::conclude;
 use draw::draw;
 use std::alloc::{AllocError, Global};
-use std::env;
-use std::io::ErrorKind;
 use std::process::ExitCode;
 use stop::Stop;
 use words::command_of;
@@ -26,22 +24,6 @@ const MEMORY: u8 = 9;
 const LONG_TRACE: u8 = 17;
 
 const NO_RANGE: u8 = 18;
-
-// The words after the program's name. Words that are no texts are no command.
-fn words_of(rt: &HostRuntime) -> Result<Vec<Word>, OutOfMemory> {
-    let alloc = rt.alloc();
-    let mut words = Vec::new(alloc);
-    match env::args(rt) {
-        Ok(args) => {
-            for arg in args.skip(1) {
-                words.push(Word::of(alloc, arg.as_str())?)?;
-            }
-            Ok(words)
-        }
-        Err(e) if e.kind() == ErrorKind::OutOfMemory => Err(OutOfMemory),
-        Err(_) => Ok(words),
-    }
-}
 
 /// Puts a line, and answers the status that goes with it, or 9. Where the put of a report fails it
 /// answers 8, and else the status is as it was.
@@ -93,7 +75,7 @@ fn main(rt: HostRuntime) -> ExitCode {
     let alloc = rt.alloc();
     let mut files = DirFiles::new(&rt);
     let mut out = StdSink::new(&rt);
-    let Ok(words) = words_of(&rt) else {
+    let Ok(words) = words_after_name(&rt) else {
         return ExitCode::from(put_memory(alloc, &mut out));
     };
     let Some(command) = command_of(&words) else {
