@@ -8,7 +8,7 @@ use Rattle.dim_rag.specs.declared.entry.Edge.{Edge}
 use Rattle.dim_signature.specs.Sig.{Sig}
 use Rattle.dim_cover.specs.Cover.{agrees, is_apart, covers}
 use Rattle.dim_cover.specs.Index.{agreeing}
-use Rattle.dim_cover.specs.Least.{births}
+use Rattle.dim_rag.specs.Steps.{births}
 use Rattle.dim_cover.specs.Named.{uses, cover_births}
 
 -- the edges before no cover of the rest

@@ -1,11 +1,11 @@
 //! Stacks by their innermost frames, at which most stacks differ.
-ghost use Rattle.std.specs.Prelude.{◌≡◌, ◌<◌, ◌≤◌, take};
+ghost use Rattle.std.specs.Prelude.{◌≡◌, ◌<◌, ◌≤◌, length, take};
 ghost use Rattle.std.specs.Cmp.Lexicographic.{pointwise};
 ghost use Rattle.dim_stack.specs.Order.{frame_eq};
 ghost use Rattle.dim_cover.specs.Index.{front};
 
 use crate::shelf::mixed;
-use dim_stack::Stack;
+use dim_stack::{Frame, Stack};
 
 /// The bucket of the innermost frame of a stack.
 pub fn front_of(stack: &Stack) -> usize
@@ -16,11 +16,27 @@ pub fn front_of(stack: &Stack) -> usize
     (mixed(0, &stack.frame(0)) % 4096) as usize
 }
 
+/// The bucket of the first of some frames, of which there is one at least.
+pub fn front_in(frames: &[Frame]) -> usize
+    requires { 1 ≤ length frames.now }
+    ensures bucket { result ≡ front frames.now }
+    ensures low { result < 4096 }
+{
+    (mixed(0, &frames[0]) % 4096) as usize
+}
+
 /// Whether the innermost frames of two stacks are equal.
 pub fn same_front(a: &Stack, b: &Stack) -> bool
     ensures { result ≡ pointwise frame_eq (take 1 a.now) (take 1 b.now) }
 {
-    a.as_slice().first() == b.as_slice().first()
+    same_first(a.as_slice(), b.as_slice())
+}
+
+/// Whether the first frames of two lists are equal.
+pub fn same_first(a: &[Frame], b: &[Frame]) -> bool
+    ensures { result ≡ pointwise frame_eq (take 1 a.now) (take 1 b.now) }
+{
+    a.first() == b.first()
 }
 
 /// Whether two stacks agree at a depth from 1 to 32. It looks at the innermost frames first.

@@ -28,7 +28,8 @@ use Rattle.dim_signature.specs.Sig.{Sig}
 use Rattle.dim_cover.specs.Named.{named}
 use Rattle.dim_gate.specs.Gate.{Constants}
 use Rattle.dim_gate.specs.Known.{known_sigs}
-use Rattle.dim_gate.specs.Answer.{answer_by, entry_by, entry_of, reply_of, MayGive}
+use Rattle.dim_rag.specs.Made.{entry_by}
+use Rattle.dim_gate.specs.Answer.{answer_by, entry_of, reply_of, MayGive}
 use Rattle.dim_gate.specs.Threads.{Answer, only, refused, with, again_or, still_or, yield_or_go, busy_or_got, acquire, if_running, release, miss_or, avoid_or_took, end}
 use Rattle.dim_gate.specs.Tender.{stale_or, chosen_or_stale, unlearnt_or, broken, known_or, full_or_learnt}
 use Rattle.dim_gate.proofs.Fitting.{fits_after}

@@ -1,4 +1,3 @@
-pub mod Births
 pub mod History
 pub mod Fits
 pub mod Counts
@@ -23,3 +22,4 @@ pub mod Journal
 pub mod Yielded
 pub mod Shown
 pub mod Links
+pub mod Made

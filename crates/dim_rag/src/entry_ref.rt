@@ -1,10 +1,12 @@
 //! Entries by reference.
-ghost use Rattle.std.specs.Prelude.{◌≡◌, ◌≤◌, length};
+ghost use Rattle.std.specs.Prelude.{◌≡◌, ◌≤◌, length, option_map, IfSome};
 ghost use Rattle.dim_rag.specs.declared.entry.Entry.TheVariants.{Miss};
 ghost use Rattle.dim_rag.specs.declared.entry.MissWhy.TheVariants.{Avoid};
+ghost use Rattle.dim_rag.specs.Made.{entry_by};
 ghost use Rattle.dim_rag.specs.Shown.{HasStack, shown};
 
 use crate::births::Births;
+use crate::command::{Command, Reply};
 use crate::entry::{Entry, MissWhy, Named, Why};
 use dim_base::{Lid, Tid};
 use dim_stack::{Frame, Stack};
@@ -129,6 +131,58 @@ impl<'a> EntryRef<'a> {
                 sig: named.sig,
                 births: &named.births,
             },
+        }
+    }
+
+    /// The entry that t's or the tender's command makes, by the reply to it, if it makes one.
+    ///
+    /// It is inlined, so that the kind of an entry is asked for once where it is known.
+    #[inline(always)]
+    pub fn by(t: Tid, cmd: &'a Command, reply: &'a Reply) -> Option<EntryRef<'a>>
+        ensures entry { option_map shown result ≡ entry_by t cmd.now reply.now }
+        ensures stack { IfSome result HasStack }
+    {
+        match (cmd, reply) {
+            (Command::Request { l, stack }, Reply::Go) => Some(EntryRef::Go {
+                t,
+                l: *l,
+                stack: frames_of(stack),
+            }),
+            (Command::Request { l, stack }, Reply::Yield(named)) => Some(EntryRef::Yield {
+                t,
+                l: *l,
+                stack: frames_of(stack),
+                sig: named.sig,
+                births: &named.births,
+            }),
+            (Command::Acquire { l }, Reply::Got) => Some(EntryRef::Got { t, l: *l }),
+            (Command::Release { l }, Reply::Freed) => Some(EntryRef::Free { t, l: *l }),
+            (Command::Request { l, stack } | Command::Try { l, stack }, Reply::Took) => {
+                Some(EntryRef::Took {
+                    t,
+                    l: *l,
+                    stack: frames_of(stack),
+                })
+            }
+            (Command::Try { l, stack }, Reply::MissBusy { holder }) => Some(EntryRef::MissBusy {
+                t,
+                l: *l,
+                stack: frames_of(stack),
+                holder: *holder,
+            }),
+            (Command::Try { l, stack }, Reply::MissAvoid(named)) => Some(EntryRef::MissAvoid {
+                t,
+                l: *l,
+                stack: frames_of(stack),
+                sig: named.sig,
+                births: &named.births,
+            }),
+            (Command::End { why }, Reply::Ended) => Some(EntryRef::End { t, why: *why }),
+            (Command::Break { set, t }, Reply::Broken { .. }) => {
+                Some(EntryRef::Break { set: *set, t: *t })
+            }
+            (Command::Learn { births }, Reply::Learnt { .. }) => Some(EntryRef::Learn { births }),
+            _ => None,
         }
     }
 

@@ -12,6 +12,7 @@ ghost use Rattle.dim_rag.specs.Links.{link_of};
 
 mod born;
 mod causes;
+mod chronicle;
 mod cycles;
 mod fits;
 mod holder;
@@ -28,6 +29,7 @@ use crate::entry::{Edge, Entry, Mode};
 use crate::entry_ref::EntryRef;
 use dim_base::{Lid, OutOfMemory, Tid};
 use holder::Holder;
+pub use holder::MOST_HOLDS;
 use link::Link;
 use replay::replay;
 use row::Row;
@@ -107,20 +109,14 @@ impl Graph {
             ≡ record self.old
             { entries = self.old.entries ++ e.now ∷ []; spare = self.old.spare - 1 } }
     {
-        let place = self.told.len();
-        replay(
-            &mut self.rows,
-            &mut self.holders,
-            &mut self.counts,
-            &EntryRef::of(e),
-            place,
-        );
-        self.told.tell(e);
-        self.spare -= 1;
+        self.enter_ref(&EntryRef::of(e));
     }
 
     /// Takes an entry that fits and is given by reference, while `spare` is at least 1. It costs the
     /// same at any length.
+    ///
+    /// It is inlined, so that the kind of an entry is asked for once where it is known.
+    #[inline(always)]
     pub fn enter_ref(&mut self, e: &EntryRef<'_>)
         requires room { 1 ≤ self.old.spare }
         requires stack { HasStack e.now }
@@ -138,7 +134,7 @@ impl Graph {
             e,
             place,
         );
-        self.told.tell_ref(e);
+        self.told.tell(e);
         self.spare -= 1;
     }
 

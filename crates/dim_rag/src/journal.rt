@@ -2,7 +2,7 @@
 ghost use Rattle.std.specs.Prelude.{◌≡◌, ◌+◌, ◌-◌, ◌<◌, ◌≤◌, ◌^◌, [], ◌∷◌, ◌++◌, ◌↔◌, length, slice_get, map, max, All, Some, IsTrue, IfOk, OnOk, OnErr};
 ghost use Rattle.dim_rag.specs.Journal.{IsWithin, entries_of};
 ghost use Rattle.dim_rag.specs.Shown.{HasStack, shown};
-ghost use Rattle.dim_rag.specs.Yielded.{yielded};
+ghost use Rattle.dim_rag.specs.Yielded.{is_learn, yielded};
 
 pub mod brief;
 mod comparing;
@@ -11,7 +11,7 @@ mod span;
 use crate::births::Births;
 use crate::entry::{Entry, MissWhy};
 use crate::entry_ref::EntryRef;
-use brief::{Brief, brief_of, entry_of, look, yielded};
+use brief::{Brief, brief_of, entry_of, is_learn, look, yielded};
 use comparing::stands_for;
 use dim_base::{OutOfMemory, Tid};
 use dim_stack::Frame;
@@ -101,6 +101,13 @@ impl Journal {
         self.spare -= 1;
     }
 
+    /// Whether there is room for one more.
+    pub fn has_room(&self) -> bool
+        ensures { IsTrue result ↔ (1 ≤ self.now.spare) }
+    {
+        self.spare > 0
+    }
+
     /// How many entries there are.
     pub fn len(&self) -> u32
         ensures len { result ≡ length self.now.entries }
@@ -133,6 +140,14 @@ impl Journal {
         ensures { slice_get (map yielded self.now.entries) place ≡ Some result }
     {
         yielded(&self.briefs[place as usize])
+    }
+
+    /// Whether the entry at a place is a Learn. The place is below the length.
+    pub fn is_learn(&self, place: u32) -> bool
+        requires { place < length self.now.entries }
+        ensures { slice_get (map is_learn self.now.entries) place ≡ Some result }
+    {
+        is_learn(&self.briefs[place as usize])
     }
 
     /// Whether this entry is at a place.

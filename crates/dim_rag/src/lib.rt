@@ -15,6 +15,6 @@ pub use births::Births;
 pub use command::{Command, Refusal, Reply};
 pub use entry::{Edge, Entry, MissWhy, Mode, Named, Why, same_entry};
 pub use entry_ref::EntryRef;
-pub use graph::{Graph, Trail, is_member, without};
+pub use graph::{Graph, MOST_HOLDS, Trail, is_member, without};
 pub use journal::Journal;
 pub use tables::Tables;

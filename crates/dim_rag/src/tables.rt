@@ -101,8 +101,7 @@ impl Tables {
             ≡ record self.old
             { entries = self.old.entries ++ e.now ∷ []; spare = self.old.spare - 1 } }
     {
-        self.graph.enter(e);
-        self.journal.push(e);
+        self.enter_ref(&EntryRef::of(e));
     }
 
     /// Appends an entry that fits and is given by reference, in the room that there is. It costs the

@@ -13,7 +13,7 @@ use dim_stack::{Frame, Stack};
 use std::marker::Model;
 
 /// How often a thread may hold a lock.
-const MOST_HOLDS: u8 = 255;
+pub const MOST_HOLDS: u8 = 255;
 
 /// The hold edge on a lock, or none, which is what a contract sees.
 ///

@@ -2,7 +2,7 @@
 ghost use Rattle.std.specs.Prelude.{◌≡◌, ℕ, List, ◌∷◌, [], ◌+◌, ◌<◌, ◌≤◌, ◌^◌, ◌++◌, length, vec_len, vec_capacity};
 ghost use Rattle.dim_stack.specs.declared.Frame.{Frame};
 ghost use Rattle.dim_rag.specs.Shown.{HasStack, shown};
-ghost use Rattle.dim_rag.specs.Yielded.{yielded};
+ghost use Rattle.dim_rag.specs.Yielded.{is_learn, yielded};
 ghost use Rattle.dim_rag.specs.Span.{IsIn};
 ghost use Rattle.dim_rag.specs.Journal.{IsWithin, stack_of, births_of, brief_of, entry_of};
 
@@ -250,6 +250,13 @@ pub fn entry_of(frames: &[Frame], births: &[Births], brief: &Brief) -> Entry
     ensures { result ≡ entry_of frames.now births.now brief.now }
 {
     look(frames, births, brief).entry()
+}
+
+/// Whether a brief entry stands for a Learn.
+pub fn is_learn(brief: &Brief) -> bool
+    ensures { (fs : List Frame) (bs : List (List ℕ)) → is_learn (entry_of fs bs brief.now) ≡ result }
+{
+    matches!(brief, Brief::Learnt { .. })
 }
 
 /// The number of the signature that a brief entry names, where it stands for a Yield.
