@@ -7,9 +7,10 @@ use Rattle.dim_rag.specs.declared.entry.Entry.{Entry}
 use Rattle.dim_rag.specs.History.{past}
 use Rattle.dim_rag.specs.Places.{before}
 use Rattle.dim_rag.proofs.Exports.{newest_at, older_at, place_cases, before_older, before_newest, older_low}
+use Rattle.dim_rag.specs.Tables.{caller_of}
 use Rattle.dim_vm.specs.Configuration.{led}
 use Rattle.dim_vm.specs.Fitting.{FitsOwn, OwnWalk}
-use Rattle.dim_vm.specs.Walks.{Walks, FitsCaller, caller_of}
+use Rattle.dim_vm.specs.Walks.{Walks, FitsCaller}
 use Rattle.dim_vm.specs.Places.{WalkLaw, LedLaw}
 
 -- a recursion that asks something of each entry, after those before it, asks it at each place

@@ -12,13 +12,14 @@ use Rattle.dim_rag.specs.declared.entry.Mode.{Mode}
 use Rattle.dim_rag.specs.declared.entry.Mode.TheVariants as modes
 use Rattle.dim_rag.specs.History.{mode}
 use Rattle.dim_rag.specs.Fits.{Fits}
+use Rattle.dim_rag.specs.Tables.{caller_of}
 use Rattle.dim_vm.specs.declared.state.State.{State}
 use Rattle.dim_vm.specs.declared.state.State.TheVariants.{Running, Waits, Yields, Ended}
 use Rattle.dim_vm.specs.Own.{state_by, IsModeOf}
 use Rattle.dim_vm.specs.Configuration.{led}
 use Rattle.dim_vm.specs.Fitting.{FitsEntry, FitsOwn, MayEnd, OwnWalk}
 use Rattle.dim_vm.specs.Laws.{SameButBroken, OwnWalksLaw}
-use Rattle.dim_vm.specs.Walks.{caller_of, is_by, own_of, configuration, FitsCaller, IsAwake, Walks, WokenIn, EndsWoken, AllEndWoken}
+use Rattle.dim_vm.specs.Walks.{is_by, own_of, configuration, FitsCaller, IsAwake, Walks, WokenIn, EndsWoken, AllEndWoken}
 use Rattle.dim_vm.proofs.Leads.{fits_more}
 use Rattle.dim_vm.proofs.OwnModes.{own_mode}
 use Rattle.dim_vm.proofs.Stands.{IsAsking, asking_led, state_led, mode_own}

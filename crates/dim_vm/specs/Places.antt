@@ -5,11 +5,12 @@ use Rattle.dim_asm.specs.Code.{Code}
 use Rattle.dim_rag.specs.declared.entry.Entry.{Entry}
 use Rattle.dim_rag.specs.History.{past}
 use Rattle.dim_rag.specs.Places.{before}
+use Rattle.dim_rag.specs.Tables.{caller_of}
 use Rattle.dim_vm.specs.declared.context.Context.{Context}
 use Rattle.dim_vm.specs.Table.{Next, Plain, next}
 use Rattle.dim_vm.specs.Configuration.{Course, course, led, moved, rested, start}
 use Rattle.dim_vm.specs.Fitting.{FitsOwn, OwnWalk}
-use Rattle.dim_vm.specs.Walks.{Walks, FitsCaller, caller_of}
+use Rattle.dim_vm.specs.Walks.{Walks, FitsCaller}
 
 -- A list walks exactly where at each place the entry fits the configuration to which its caller's
 -- own entries before that place lead; and so do a thread's own entries.

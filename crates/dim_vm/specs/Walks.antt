@@ -3,24 +3,18 @@ use Rattle.std.specs.Prelude.{◌≡◌, ℕ, ◌==◌, ⊤, ◌⊎◌, Bool, fa
 use Rattle.dim_base.specs.declared.Tid.{Tid}
 use Rattle.dim_asm.specs.Code.{Code, thread_count, lock_count}
 use Rattle.dim_rag.specs.declared.entry.Entry.{Entry}
-use Rattle.dim_rag.specs.declared.entry.Entry.TheVariants.{End, Break, Learn}
+use Rattle.dim_rag.specs.declared.entry.Entry.TheVariants.{End}
 use Rattle.dim_rag.specs.declared.entry.Mode.TheVariants as modes
 use Rattle.dim_rag.specs.declared.entry.Why.TheVariants.{Spent}
 use Rattle.dim_rag.specs.History.{mode}
 use Rattle.dim_rag.specs.Edges.{standing}
 use Rattle.dim_rag.specs.Fits.{IsYielding}
-use Rattle.dim_rag.specs.Tables.{thread_of}
+use Rattle.dim_rag.specs.Tables.{caller_of}
 use Rattle.dim_vm.specs.declared.state.State.{State}
 use Rattle.dim_vm.specs.declared.state.State.TheVariants.{Yields}
 use Rattle.dim_vm.specs.Own.{state_by}
 use Rattle.dim_vm.specs.Configuration.{Configuration, led}
 use Rattle.dim_vm.specs.Fitting.{FitsEntry}
-
--- the caller of an entry, where it is a thread
-abbrev pub caller_of : Entry → Option Tid
-caller_of (Break set t) = None
-caller_of (Learn births) = None
-caller_of e = thread_of e
 
 abbrev pub is_by : Tid → Option Tid → Bool
 is_by t None = false

@@ -134,12 +134,12 @@ impl Frames {
     pub fn stack(&self, program: &Program) -> Stack
         ensures { result ≡ stack_of program.now self.now }
     {
-        let mut all = [Frame { func: 0, at: 0 }; 32];
         let len = self.len;
-        for i in 0..len {
-            all[i] = self.frame(program, i);
+        let mut stack = Stack::new(&[self.frame(program, 0)]);
+        for i in 1..len {
+            stack.push(self.frame(program, i));
         }
-        Stack::new(&all[..len])
+        stack
     }
 
     /// Whether this is the stack of the calls, innermost first.

@@ -9,9 +9,7 @@ use crate::step::Step;
 use crate::trap::Trap;
 use dim_asm::Program;
 use dim_base::Lid;
-
-/// How often a thread may hold a lock.
-const MOST_HOLDS: u8 = 255;
+use dim_rag::MOST_HOLDS;
 
 /// LOCK, and LOCKX where the lock was an operand, which drops then.
 pub fn want(holds: &[u8], l: Lid, drops: bool) -> Result<Step, Trap>
