@@ -12,6 +12,7 @@ use Rattle.dim_base.specs.declared.Lid.{Lid}
 use Rattle.dim_rag.specs.declared.entry.Entry.{Entry}
 use Rattle.dim_rag.specs.declared.entry.Entry.TheVariants.{Go, Yield, Got, Free, Took, Miss, End, Break, Learn}
 use Rattle.dim_rag.specs.declared.entry.Why.TheVariants.{Done, Trapped, Spent}
+use Rattle.dim_rag.specs.Tables.{caller_of}
 use Rattle.dim_vm.specs.declared.trap.Trap.{Trap}
 use Rattle.dim_vm.specs.declared.trap.Trap.TheVariants as trap
 use Rattle.dim_vm.specs.declared.context.Context.{Context}
@@ -24,7 +25,7 @@ use Rattle.dim_vm.specs.Frames.{top_frame, local, entered, frame_of, stack_of}
 use Rattle.dim_vm.specs.Operands.{top, push, pop, duplicate, swap, calculate, sum, difference, is_less, is_equal, is_zero, lock_operand}
 use Rattle.dim_vm.specs.Table.{Next, Plain, Ends, Wants, Retakes, Frees, Tries, times, lock_next, next, row, row_at, row_here, ended_by, operated, has_local, jump, on, dropped}
 use Rattle.dim_vm.specs.Configuration.{Configuration, Course, course, course_by, next_of, start, rested_in, moved, moved_by, passed, missed, led}
-use Rattle.dim_vm.specs.Walks.{FitsCaller, caller_of, own_of}
+use Rattle.dim_vm.specs.Walks.{FitsCaller, own_of}
 use Rattle.dim_trace.specs.Grammar.{IsWhy}
 
 -- 1 to 32 calls

@@ -24,12 +24,11 @@ use Rattle.dim_rag.specs.Holder.{holder}
 use Rattle.dim_rag.specs.Fits.{AreInRange}
 use Rattle.dim_rag.specs.Born.{In, EdgesLaw, all_edges, edge_after, edge_born}
 use Rattle.dim_rag.specs.Waits.{waits, WaitsLaw}
-use Rattle.dim_rag.specs.Steps.{Step, walk, close, onward, WalkLaw, IsCycle, first_owner, births as births_of_cycle}
+use Rattle.dim_rag.specs.Steps.{births, Step, walk, close, onward, WalkLaw, IsCycle, first_owner}
 use Rattle.dim_rag.specs.Certificate.{cycle_fault, CertificateLaw}
 use Rattle.dim_rag.specs.Starvation.{step, starvation_fault}
 use Rattle.dim_rag.proofs.Exports.{in_parts, edge_on, holder_hold, found_edge, step_law, starvation_law, edge_below}
 use Rattle.dim_cover.specs.Cover.{IsCover as Covers}
-use Rattle.dim_cover.specs.Least.{births}
 use Rattle.dim_cover.specs.Named.{with_new, named, IsNamed, NamedLaw}
 use Rattle.dim_gate.specs.Gate.{Constants}
 use Rattle.dim_gate.specs.Known.{Known, knowns, known_sigs, learnt, stack_at, stacks_of}
@@ -117,10 +116,10 @@ walk_short s t (suc more) at so_far bs q = by_step (s at) q (λ e. walk_short s 
     by_step (Some e) q f = by_tests e (eqb e.t.0 t) (ltb e.t.0 t) q (f e)
 
 module _ (edges : EdgesLaw) (certificate : CertificateLaw) (walks : WalkLaw) (waits_law : WaitsLaw) (n m : ℕ) (few : n ≤ 32) where
-  list_few : (s : Step) → ((t : ℕ) (e : Edge) → s t ≡ Some e → e.t.0 < n) → (c : List Edge) → IsCycle s c → length (births_of_cycle c) ≤ 32
+  list_few : (s : Step) → ((t : ℕ) (e : Edge) → s t ≡ Some e → e.t.0 < n) → (c : List Edge) → IsCycle s c → length (births c) ≤ 32
   list_few s leads c k =
       let found = walks.complete s n leads c k in
-      let short : length (births_of_cycle c) ≤ 0 + n = walk_short s (first_owner c) n (first_owner c) [] (births_of_cycle c) found in
+      let short : length (births c) ≤ 0 + n = walk_short s (first_owner c) n (first_owner c) [] (births c) found in
       omega (arith, short, few)
 
   cycle_few : (h : List Entry) (bs : List ℕ) → AreInRange n m h → cycle_fault n m h bs ≡ None → length bs ≤ 32

@@ -25,12 +25,12 @@ use Rattle.dim_rag.specs.Fits.{IsInRange}
 use Rattle.dim_rag.specs.History.{past, mode}
 use Rattle.dim_rag.specs.Holder.{holder}
 use Rattle.dim_rag.specs.Steps.{AreCycles, CyclesLaw, IsCycle, births as births_of}
-use Rattle.dim_rag.specs.Tables.{thread_of}
+use Rattle.dim_rag.specs.Tables.{thread_of, caller_of}
 use Rattle.dim_rag.specs.Waits.{WaitsLaw, waits}
 use Rattle.dim_rag.proofs.Exports.{Decides-entry, past_more}
 use Rattle.dim_gate.specs.Answer.{entry_of}
 use Rattle.dim_gate.specs.Gate.{Constants}
-use Rattle.dim_gate.specs.Legal.{Legal, IsLegalAfter, caller_of as number_of_caller, command_of}
+use Rattle.dim_gate.specs.Legal.{Legal, IsLegalAfter, giver_of as number_of_caller, command_of}
 use Rattle.dim_gate.specs.Settled.{HasEnded, IsSettled, IsWaiting, is_known, are_followed}
 use Rattle.dim_gate.proofs.Exports.{followed_law}
 use Rattle.dim_monitor.specs.Found.{cycles_of}
@@ -38,12 +38,13 @@ use Rattle.dim_vm.specs.Configuration.{Configuration, is_ended, next_of}
 use Rattle.dim_vm.specs.Fitting.{FitsEntry, FitsNext, IsWanting, IsRetaking, IsFreeing, IsTrying}
 use Rattle.dim_vm.specs.Frames.{stack_of}
 use Rattle.dim_vm.specs.Table.{Next, Plain, Ends, Wants, Retakes, Frees, Tries}
-use Rattle.dim_vm.specs.Walks.{Walks, FitsCaller, IsAwake, caller_of, configuration, is_by}
+use Rattle.dim_vm.specs.Walks.{Walks, FitsCaller, IsAwake, configuration, is_by}
 use Rattle.dim_trace.specs.declared.verdict.Rule.TheVariants as rule
 use Rattle.dim_trace.specs.declared.verdict.Verdict.{Verdict}
 use Rattle.dim_trace.specs.declared.verdict.Verdict.TheVariants.{Yes, No}
 use Rattle.dim_execution.specs.Executes.{Executes}
-use Rattle.dim_trace.specs.Checking.{IsSoundTo, IsVerdict, before}
+use Rattle.dim_rag.specs.Places.{before}
+use Rattle.dim_trace.specs.Checking.{IsSoundTo, IsVerdict}
 use Rattle.dim_trace.specs.Tested.{FoundLaw, same_stack, are_among, is_in_range, is_made, is_legal, wants, retakes, frees, tries, wants_some, ends, fits_next, fits, is_awake, is_move, rests, all_rest, is_settled, by_tests, verdict_after, verdict_of}
 use Rattle.dim_trace.proofs.Settling.{of_cycles}
 

@@ -8,12 +8,13 @@ use Rattle.dim_asm.specs.Code.{Code}
 use Rattle.dim_rag.specs.declared.entry.Entry.{Entry}
 use Rattle.dim_rag.specs.declared.entry.Entry.TheVariants.{Go, Yield, Got, Free, Took, Miss, End, Break, Learn}
 use Rattle.dim_rag.specs.Fits.{IsInRange, AreInRange}
+use Rattle.dim_rag.specs.Tables.{caller_of}
 use Rattle.dim_vm.specs.declared.context.Context.{Context}
 use Rattle.dim_vm.specs.declared.state.State.{State}
 use Rattle.dim_vm.specs.declared.state.State.TheVariants.{Running, Waits, Yields, Ended}
 use Rattle.dim_vm.specs.Table.{Next, Plain, Ends, Wants, Retakes, Frees, Tries, next}
 use Rattle.dim_vm.specs.Configuration.{Configuration, Course, course, course_by, next_of, start, rested_in, moved, moved_by, led}
-use Rattle.dim_vm.specs.Walks.{Walks, FitsCaller, caller_of, is_by, own_of, configuration}
+use Rattle.dim_vm.specs.Walks.{Walks, FitsCaller, is_by, own_of, configuration}
 
 -- whether an entry has a stack: then its thread pays a unit for it
 abbrev pub cost : Entry → ℕ

@@ -17,7 +17,7 @@ use Rattle.dim_rag.specs.declared.entry.Why.TheVariants.{Spent}
 use Rattle.dim_rag.specs.Edges.{standing}
 use Rattle.dim_rag.specs.History.{mode}
 use Rattle.dim_rag.specs.Holder.{holder}
-use Rattle.dim_rag.specs.Tables.{thread_of}
+use Rattle.dim_rag.specs.Tables.{thread_of, caller_of}
 use Rattle.dim_gate.specs.Answer.{entry_of}
 use Rattle.dim_gate.specs.Gate.{Constants}
 use Rattle.dim_gate.specs.Legal as legal
@@ -26,7 +26,7 @@ use Rattle.dim_monitor.specs.Found.{cycles_of}
 use Rattle.dim_vm.specs.Configuration.{Configuration, is_ended, next_of}
 use Rattle.dim_vm.specs.Frames.{stack_of}
 use Rattle.dim_vm.specs.Table.{Next, Ends, Wants, Retakes, Frees, Tries}
-use Rattle.dim_vm.specs.Walks.{caller_of, configuration, is_by}
+use Rattle.dim_vm.specs.Walks.{configuration, is_by}
 use Rattle.dim_trace.specs.declared.verdict.Rule.TheVariants as rule
 use Rattle.dim_trace.specs.declared.verdict.Verdict.{Verdict}
 use Rattle.dim_trace.specs.declared.verdict.Verdict.TheVariants.{Yes, No}
@@ -61,7 +61,7 @@ is_made (Some x) e = same x e
 -- whether e is legal after h
 abbrev pub is_legal : Constants → List Entry → Entry → Bool
 is_legal c h e = is_in_range c.threads c.locks e
-    && is_made (entry_of c (legal.caller_of c.threads e) (legal.command_of e) h) e
+    && is_made (entry_of c (legal.giver_of c.threads e) (legal.command_of e) h) e
 
 -- whether the next thing is to take l that isn't held, to take it once more, to free it, or to try
 -- it

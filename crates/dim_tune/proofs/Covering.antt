@@ -16,7 +16,8 @@ use Rattle.dim_rag.specs.Born.{In, all_edges}
 use Rattle.dim_rag.proofs.Exports.{edges_law, in_parts}
 use Rattle.dim_signature.specs.Sig.{Sig}
 use Rattle.dim_cover.specs.Cover.{IsCover}
-use Rattle.dim_cover.specs.Least.{births, IsNoLater}
+use Rattle.dim_rag.specs.Steps.{births}
+use Rattle.dim_cover.specs.Least.{IsNoLater}
 use Rattle.dim_cover.specs.Named.{cover_births, cover_if_on, named, named_or, uses, with_new, HasNoCover, HasNone, IsNamed}
 use Rattle.dim_cover.proofs.Exports.{named_law}
 use Rattle.dim_tune.specs.Asked.{Keeps}

@@ -4,6 +4,7 @@ ghost use Rattle.dim_asm.specs.Code.{lock_count, thread_count};
 ghost use Rattle.dim_rag.specs.Born.{all_edges};
 ghost use Rattle.dim_rag.specs.Fits.{AreInRange, Fits, FitsAfter, IsInRange};
 ghost use Rattle.dim_rag.specs.History.{past};
+ghost use Rattle.dim_rag.specs.Shown.{HasStack, shown};
 ghost use Rattle.dim_gate.specs.Gate.{Constants};
 ghost use Rattle.dim_gate.specs.Legal.{Legal};
 ghost use Rattle.dim_tune.specs.declared.lowered.Lowered.{Lowered};
@@ -17,7 +18,7 @@ use crate::raising::{all_lowered, raise_all};
 use dim_asm::Program;
 use dim_base::OutOfMemory;
 use dim_cover::Index;
-use dim_rag::{Entry, Tables};
+use dim_rag::{EntryRef, Tables};
 use dim_signature::Catalogue;
 use dim_trace::KeptTrace;
 use std::alloc::Global;
@@ -84,8 +85,7 @@ impl Follower {
             (depths_of self.new.all.items)) }
     {
         for place in 0..trace.len() {
-            let e = trace.entry(place);
-            self.follow(alloc, loaded, innermost, &e)?;
+            self.follow(alloc, loaded, innermost, &trace.look(place))?;
         }
         Ok(())
     }
@@ -96,12 +96,13 @@ impl Follower {
         alloc: Global,
         loaded: &Catalogue,
         innermost: &Innermost,
-        e: &Entry,
+        e: &EntryRef<'_>,
     ) -> Result<(), OutOfMemory>
         requires filed { AreFiled innermost.now.files loaded.now.sigs }
         requires room { 1 ≤ self.old.tables.spare }
-        requires in_range { IsInRange self.old.tables.threads self.old.tables.locks e.now }
-        requires fits { FitsAfter (past self.old.tables.entries) e.now }
+        requires stack { HasStack e.now }
+        requires in_range { IsInRange self.old.tables.threads self.old.tables.locks (shown e.now) }
+        requires fits { FitsAfter (past self.old.tables.entries) (shown e.now) }
         requires index { self.old.index
             ≡ record {
               room = self.old.tables.threads + self.old.tables.locks;
@@ -109,15 +110,15 @@ impl Follower {
             } }
         requires lowered { AreLowered loaded.now.sigs self.old.all.items }
         ensures tables { OnOk result (self.new.tables ≡ record self.old.tables {
-          entries = self.old.tables.entries ++ e.now ∷ [];
+          entries = self.old.tables.entries ++ shown e.now ∷ [];
           spare = self.old.tables.spare - 1;
         }) }
         ensures index { OnOk result (self.new.index
             ≡ record self.old.index
-            { edges = all_edges (e.now ∷ past self.old.tables.entries) }) }
+            { edges = all_edges (shown e.now ∷ past self.old.tables.entries) }) }
         ensures lowered { OnOk result (AreLowered loaded.now.sigs self.new.all.items) }
-        ensures next { OnOk result (AreNext loaded.now.sigs (past self.old.tables.entries) e.now
-            self.old.all.items self.new.all.items) }
+        ensures next { OnOk result (AreNext loaded.now.sigs (past self.old.tables.entries)
+            (shown e.now) self.old.all.items self.new.all.items) }
     {
         raise_all(
             alloc,
@@ -128,8 +129,8 @@ impl Follower {
             &self.index,
             e,
         )?;
-        self.index.tell(&self.tables, e);
-        self.tables.enter(e);
+        self.index.tell_ref(&self.tables, e);
+        self.tables.enter_ref(e);
         Ok(())
     }
 

@@ -96,7 +96,7 @@ fn is_last(numbers: &[u32], i: u32) -> bool
 }
 
 /// The innermost frame of a stack.
-pub fn first_frame(stack: &Stack) -> Frame
+fn first_frame(stack: &Stack) -> Frame
     ensures { slice_get stack.now 0 ≡ Some result }
 {
     let _some = stack.len(); // for the contract: it has a frame

@@ -3,17 +3,18 @@ ghost use Rattle.std.specs.Prelude.{◌≡◌, ◌<◌, ◌≤◌, ◌↔◌, �
 ghost use Rattle.dim_rag.specs.Born.{AreByBirth, In, all_edges};
 ghost use Rattle.dim_rag.specs.Fits.{IsInRange};
 ghost use Rattle.dim_rag.specs.History.{past};
+ghost use Rattle.dim_rag.specs.Shown.{HasStack, shown};
 ghost use Rattle.dim_tune.specs.declared.lowered.Lowered.{Lowered};
 ghost use Rattle.dim_tune.specs.Asked.{recorded, Keeps};
 ghost use Rattle.dim_tune.specs.Innermost.{AreFiled};
 ghost use Rattle.dim_tune.specs.Raised.{cover_at, AreLowered, AreNext, AreRaised, IsLowered, IsRaised};
 
-use crate::asked::{asked, keeps};
-use crate::innermost::{Innermost, first_frame};
+use crate::asked::{asked, edge_after, keeps};
+use crate::innermost::Innermost;
 use crate::lowered::Lowered;
 use dim_base::OutOfMemory;
 use dim_cover::Index;
-use dim_rag::{Edge, Entry, Tables};
+use dim_rag::{Edge, EntryRef, Tables};
 use dim_signature::{Catalogue, Signature};
 use std::alloc::Global;
 
@@ -54,20 +55,22 @@ pub fn raise_all(
     innermost: &Innermost,
     tables: &Tables,
     index: &Index,
-    e: &Entry,
+    e: &EntryRef<'_>,
 ) -> Result<(), OutOfMemory>
     requires lowered { AreLowered loaded.now.sigs all.old.items }
     requires filed { AreFiled innermost.now.files loaded.now.sigs }
-    requires in_range { IsInRange tables.now.threads tables.now.locks e.now }
+    requires stack { HasStack e.now }
+    requires in_range { IsInRange tables.now.threads tables.now.locks (shown e.now) }
     requires edges { index.now.edges ≡ all_edges (past tables.now.entries) }
     ensures lowered { OnOk result (AreLowered loaded.now.sigs all.new.items) }
-    ensures next { OnOk result (AreNext loaded.now.sigs (past tables.now.entries) e.now
+    ensures next { OnOk result (AreNext loaded.now.sigs (past tables.now.entries) (shown e.now)
         all.old.items all.new.items) }
 {
     match &asked(tables, e) {
-        Some(edge) => {
-            let near = innermost.at(&first_frame(&edge.stack));
-            raise_each(alloc, all, loaded, near, index, edge, e)
+        Some(wish) => {
+            let near = innermost.at(&wish.first_frame());
+            let edge = edge_after(tables, wish);
+            raise_each(alloc, all, loaded, near, index, &edge, e)
         }
         None => Ok(()),
     }
@@ -81,14 +84,14 @@ fn raise_each(
     numbers: &[u32],
     index: &Index,
     edge: &Edge,
-    e: &Entry,
+    e: &EntryRef<'_>,
 ) -> Result<(), OutOfMemory>
     requires lowered { AreLowered loaded.now.sigs all.old.items }
     requires numbers { (n : ℕ) → In n numbers.now → n < length loaded.now.sigs }
     requires newest { AreByBirth (index.now.edges ++ edge.now ∷ []) }
     ensures lowered { OnOk result (AreLowered loaded.now.sigs all.new.items) }
-    ensures raised { OnOk result (AreRaised loaded.now.sigs numbers.now index.now.edges e.now
-        edge.now all.old.items all.new.items) }
+    ensures raised { OnOk result (AreRaised loaded.now.sigs numbers.now index.now.edges
+        (shown e.now) edge.now all.old.items all.new.items) }
 {
     for k in 0..numbers.len() {
         let i = numbers[k];
@@ -114,12 +117,12 @@ fn raise(
     i: u32,
     index: &Index,
     edge: &Edge,
-    e: &Entry,
+    e: &EntryRef<'_>,
 ) -> Result<(), OutOfMemory>
     requires lowered { IsLowered sig.now x.old }
     requires newest { AreByBirth (index.now.edges ++ edge.now ∷ []) }
     ensures lowered { OnOk result (IsLowered sig.now x.new) }
-    ensures raised { OnOk result (IsRaised sig.now i index.now.edges e.now edge.now
+    ensures raised { OnOk result (IsRaised sig.now i index.now.edges (shown e.now) edge.now
         x.old.depth x.new.depth) }
 {
     if !sig.on() {
@@ -132,12 +135,19 @@ fn raise(
 }
 
 /// Whether what was named stays so that an entry says, where signature i is tried at this depth.
-fn is_kept(x: &Lowered, sig: &Signature, i: u32, index: &Index, edge: &Edge, e: &Entry) -> bool
+fn is_kept(
+    x: &Lowered,
+    sig: &Signature,
+    i: u32,
+    index: &Index,
+    edge: &Edge,
+    e: &EntryRef<'_>,
+) -> bool
     requires lowered { IsLowered sig.now x.now }
     requires on { sig.now.on ≡ true }
     requires newest { AreByBirth (index.now.edges ++ edge.now ∷ []) }
     ensures { IsTrue result
-        ↔ Keeps (recorded e.now) i (cover_at sig.now x.now.depth index.now.edges edge.now) }
+        ↔ Keeps (recorded (shown e.now)) i (cover_at sig.now x.now.depth index.now.edges edge.now) }
 {
     keeps(e, i, &index.first_cover(&x.known, edge))
 }

@@ -3,6 +3,7 @@ use Rattle.std.specs.Prelude.{Some, slice_get}
 use Rattle.std.proofs.lemmas.Bool.{cases_eq}
 use Rattle.std.proofs.lemmas.List.{length-set}
 use Rattle.std.proofs.lemmas.Option.{same_Some, slice_get-get_or}
+use Rattle.dim_rag.specs.Shown.{shown}
 use Rattle.dim_signature.specs.Sig.{Sig}
 use Rattle.dim_tune.specs.declared.lowered.Lowered.{Lowered}
 use Rattle.dim_tune.specs.Raised.{IsLowered, IsRaised}
@@ -39,7 +40,7 @@ loop-k-preserved c =
     let old = c.loop-k.all.items in
     let v = c.loop-k.invariant in
     let es = c.args.index.now.edges in
-    let e = c.args.e.now in
+    let e = (shown c.args.e.now) in
     let new = c.args.edge.now in
     let z = c.index_mut.result.now in
     let x = c.raise.new.x in
