@@ -6,15 +6,12 @@ ghost use Rattle.dim_execution.specs.Start.{first_gate, gate_of, starts};
 use dim_asm::Program;
 use dim_base::{OutOfMemory, Tid};
 use dim_gate::GateState;
-use dim_signature::Catalogue;
+use dim_signature::{Catalogue, MOST_SIGNATURES};
 use dim_vm::Machine;
 use std::alloc::Global;
 
 /// At most so many signatures are learnt, 16 of cycles and 32 of starvations.
 const LEARNS: u32 = 48;
-
-/// At most so many are known.
-const MOST: u32 = 4096;
 
 /// The gate of a program at its start, for its threads and its locks: its history is empty, it
 /// knows these signatures, of which there are at most 4,080, and has room to learn 48 more, or as
@@ -30,7 +27,7 @@ pub fn new_gate(
     requires few { length loaded.sigs ≤ 4080 }
     ensures { IfOk result (λ gate. gate ≡ first_gate None (gate_of program.now loaded.sigs depth)) }
 {
-    let learns = LEARNS.min(MOST - loaded.len());
+    let learns = LEARNS.min(MOST_SIGNATURES - loaded.len());
     GateState::new(
         alloc,
         program.threads(),

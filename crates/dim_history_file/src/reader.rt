@@ -19,13 +19,10 @@ use crate::recent::Recent;
 use crate::signing::{enter, signature};
 use crate::version::Version;
 use crate::{FileKind, ReadFault};
-use dim_signature::Catalogue;
+use dim_signature::{Catalogue, MOST_SIGNATURES};
 use dim_stack::{Names, Stack, compare};
 use dim_text::{Parts, Stop, number, one_word, unless};
 use std::alloc::Global;
-
-/// How many signatures a history has at most.
-const MOST: u32 = 4096;
 
 /// What is due.
 #[derive(Clone, Copy, Debug, PartialEq, Eq)]
@@ -98,7 +95,7 @@ impl Reader {
         ensures reading { IsReading self.old → IsReading self.new }
     {
         let form = Form::of(self.version, words)?;
-        unless(self.catalogue.len() == MOST, FileKind::Limit)?;
+        unless(self.catalogue.len() == MOST_SIGNATURES, FileKind::Limit)?;
         let opening = form.opening()?;
         self.stacks.clear();
         self.stage = Stage::Stacks(opening);
@@ -114,7 +111,7 @@ impl Reader {
         ensures reading { IsReading self.old → IsReading self.new }
     {
         let word = one_word(words, FileKind::Line)?;
-        let n = number(word, MOST).ok_or(FileKind::Number)?;
+        let n = number(word, MOST_SIGNATURES).ok_or(FileKind::Number)?;
         unless(n != self.catalogue.len(), FileKind::Count)?;
         self.stage = Stage::Closed;
         Ok(())

@@ -11,10 +11,8 @@ use crate::MergeFault;
 use crate::parted::Parts;
 use dim_base::OutOfMemory;
 use dim_history_file::{History, write};
+use dim_signature::MOST_SIGNATURES;
 use std::alloc::Global;
-
-/// How many signatures a history has at most.
-const MOST_SIGNATURES: u32 = 4096;
 
 /// How many bytes a history has at most that a run loads.
 const MOST_BYTES: u64 = 6_291_456;

@@ -14,7 +14,7 @@ use std::alloc::{AllocError, Global};
 use std::marker::Model;
 
 /// How many signatures a catalogue has at most.
-const MOST: usize = 4096;
+pub const MOST_SIGNATURES: u32 = 4096;
 
 /// How many stacks a signature has at most.
 const MOST_STACKS: usize = 32;
@@ -112,7 +112,7 @@ impl Catalogue {
     {
         match search(&self.list, &self.order, sig.as_slice()) {
             Ok(index) => Err(Add::Known { index }),
-            Err(_) if self.list.len() == MOST => Err(Add::Full),
+            Err(_) if self.list.len() == MOST_SIGNATURES as usize => Err(Add::Full),
             Err(place) => {
                 let more = self.rooms.len() + 1;
                 self.list.reserve(more)?;

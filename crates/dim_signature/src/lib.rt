@@ -6,6 +6,6 @@ mod order;
 mod signature;
 mod sorting;
 
-pub use catalogue::{Add, Catalogue, change_law, number_law};
+pub use catalogue::{Add, Catalogue, MOST_SIGNATURES, change_law, number_law};
 pub use signature::{SigFault, Signature};
 pub use sorting::{sort_stacks, sorted_law};

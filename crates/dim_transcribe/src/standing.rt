@@ -14,7 +14,7 @@ use crate::transcript::Move;
 use dim_asm::Program;
 use dim_base::{Lid, Tid};
 use dim_orders::Deed;
-use dim_rag::{EntryRef, Why};
+use dim_rag::{EntryRef, MOST_HOLDS, Why};
 use dim_stack::Frame;
 use dim_vm::Machine;
 
@@ -60,7 +60,7 @@ fn keep_one_more(holds: &mut Holds, l: Lid) -> bool
     ensures { IsTrue result → holds.new ≡ holding l (suc (times holds.old l.0)) holds.old }
 {
     let times = held(holds, l);
-    if times == 255 {
+    if times == MOST_HOLDS {
         return false;
     }
     keep(holds, l, times + 1)

@@ -13,16 +13,13 @@ use crate::room::Room;
 use dim_base::OutOfMemory;
 use dim_gate::GateState;
 use dim_run::Pass;
-use dim_signature::Catalogue;
+use dim_signature::{Catalogue, MOST_SIGNATURES};
 use dim_turn::Turn;
 use std::alloc::Global;
 use std::sync::Mutex;
 
 /// At most so many signatures are learnt, 16 of cycles and 32 of starvations.
 const LEARNS: u32 = 48;
-
-/// At most so many are known.
-const MOST: u32 = 4096;
 
 impl Domain {
     /// A domain with an empty history, and its callers, one for each thread, in the order of their
@@ -111,7 +108,7 @@ fn gate_of(
     ensures { IfOk result
         (λ gate. gate ≡ first_gate None (constants_of threads locks catalogue.sigs depth)) }
 {
-    let learns = LEARNS.min(MOST - catalogue.len());
+    let learns = LEARNS.min(MOST_SIGNATURES - catalogue.len());
     GateState::new(alloc, threads, locks, catalogue, depth, learns)
 }
 
