@@ -91,9 +91,10 @@ impl Stack {
         ensures { self.new ≡ frames.now }
     {
         let len = frames.len();
-        let most = self.len.max(len);
         self.frames[..len].copy_from_slice(frames);
-        self.frames[len..most].copy_from_slice(&NO_FRAMES[len..most]);
+        if len < self.len {
+            self.frames[len..self.len].copy_from_slice(&NO_FRAMES[len..self.len]);
+        }
         self.len = len;
     }
 
