@@ -27,6 +27,14 @@ edge_in t Running s = None
 edge_in t (Yielding l place) s = None
 edge_in t (Ended place) s = None
 
+-- the edge that a thread gets when it is broken out at a place, by its mode and the stack of its
+-- latest request
+abbrev pub wished_in : Tid → ℕ → Mode → List Frame → Option Edge
+wished_in t place (Yielding l p) s = Some record { t = t; l = l; stack = s; birth = place }
+wished_in t place (Allowed l birth) s = None
+wished_in t place Running s = None
+wished_in t place (Ended p) s = None
+
 -- the allow edge on l that a row of t says
 abbrev pub allowed_on : ℕ → ℕ → Mode → List Frame → Option Edge
 allowed_on t l (Allowed m birth) s = if m.0 == l then Some record { t = record { 0 = t }; l = m; stack = s; birth = birth } else None

@@ -1,5 +1,5 @@
 //! Entries by reference.
-ghost use Rattle.std.specs.Prelude.{◌≡◌, ◌≤◌, length, option_map, IfSome};
+ghost use Rattle.std.specs.Prelude.{◌≡◌, ◌≤◌, ◌↔◌, length, option_map, IfSome, IsTrue};
 ghost use Rattle.dim_rag.specs.declared.entry.Entry.TheVariants.{Miss};
 ghost use Rattle.dim_rag.specs.declared.entry.MissWhy.TheVariants.{Avoid};
 ghost use Rattle.dim_rag.specs.Made.{entry_by};
@@ -7,7 +7,7 @@ ghost use Rattle.dim_rag.specs.Shown.{HasStack, shown};
 
 use crate::births::Births;
 use crate::command::{Command, Reply};
-use crate::entry::{Entry, MissWhy, Named, Why};
+use crate::entry::{Entry, MissWhy, Named, Why, same_entry};
 use dim_base::{Lid, Tid};
 use dim_stack::{Frame, Stack};
 
@@ -248,6 +248,64 @@ impl<'a> EntryRef<'a> {
             EntryRef::Learn { births } => Entry::Learn { births: **births },
         }
     }
+}
+
+/// Whether two entries by reference show the same entry.
+///
+/// Of the kinds that are entered most it compares the parts where they lie.
+pub fn same_shown(a: &EntryRef<'_>, b: &EntryRef<'_>) -> bool
+    requires stack { HasStack a.now }
+    requires other_stack { HasStack b.now }
+    ensures { IsTrue result ↔ (shown a.now ≡ shown b.now) }
+{
+    match (a, b) {
+        (EntryRef::Got { t, l }, EntryRef::Got { t: u, l: m }) => is_pair(t, l, u, m),
+        (EntryRef::Free { t, l }, EntryRef::Free { t: u, l: m }) => is_pair(t, l, u, m),
+        (
+            EntryRef::Go { t, l, stack },
+            EntryRef::Go {
+                t: u,
+                l: m,
+                stack: s,
+            },
+        ) => is_pair(t, l, u, m) && are_frames(stack, s),
+        (
+            EntryRef::Took { t, l, stack },
+            EntryRef::Took {
+                t: u,
+                l: m,
+                stack: s,
+            },
+        ) => is_pair(t, l, u, m) && are_frames(stack, s),
+        _ => same_in_full(a, b),
+    }
+}
+
+/// Whether two entries by reference show the same entry, by making both.
+///
+/// It isn't inlined, since they are large and a function fills its locals each time that it is
+/// called.
+#[inline(never)]
+fn same_in_full(a: &EntryRef<'_>, b: &EntryRef<'_>) -> bool
+    requires stack { HasStack a.now }
+    requires other_stack { HasStack b.now }
+    ensures { IsTrue result ↔ (shown a.now ≡ shown b.now) }
+{
+    same_entry(&a.entry(), &b.entry())
+}
+
+/// Whether a thread and a lock are these two.
+fn is_pair(t: &Tid, l: &Lid, u: &Tid, m: &Lid) -> bool
+    ensures { IsTrue result ↔ ((t.now ≡ u.now) × (l.now ≡ m.now)) }
+{
+    t.0 == u.0 && l.0 == m.0
+}
+
+/// Whether the frames of two stacks are equal.
+fn are_frames(a: &[Frame], b: &[Frame]) -> bool
+    ensures { IsTrue result ↔ (a.now ≡ b.now) }
+{
+    a == b
 }
 
 /// Why a try took no lock that would have completed a cover.

@@ -1,10 +1,10 @@
 //! The graph of a history: its allow and hold edges, and what each thread does.
 ghost use Rattle.std.specs.Prelude.{◌≡◌, ℕ, ◌+◌, ◌-◌, ◌<◌, ◌≤◌, ◌^◌, [], ◌∷◌, ◌++◌, length, max, replicate, Some, None, IsSome, IfOk, IfSome, IfNone, option_map};
 ghost use Rattle.dim_rag.specs.declared.entry.Edge.{Edge};
-ghost use Rattle.dim_rag.specs.History.{past, mode, allow, hold, count};
+ghost use Rattle.dim_rag.specs.History.{past, mode, allow, hold, count, edge_of_wish, latest_wish};
 ghost use Rattle.dim_rag.specs.Holder.{holder};
 ghost use Rattle.dim_rag.specs.Counts.{times_held};
-ghost use Rattle.dim_rag.specs.Fits.{Fits, FitsAfter, IsUnheld, IsInRange, AreInRange};
+ghost use Rattle.dim_rag.specs.Fits.{Fits, FitsAfter, IsUnheld, IsInRange, IsYielding, AreInRange};
 ghost use Rattle.dim_rag.specs.Tables.{HasLockBelow, held_by};
 ghost use Rattle.dim_rag.specs.Rows.{idle_row};
 ghost use Rattle.dim_rag.specs.Shown.{HasStack, shown};
@@ -187,6 +187,19 @@ impl Graph {
             → result ≡ Some x }
     {
         self.rows[t.0 as usize].allow_edge(t)
+    }
+
+    /// The edge that a thread which yields gets when it is broken out now: that of its latest Yield,
+    /// born at this length.
+    pub fn wished(&self, t: Tid) -> Option<Edge>
+        requires in_range { t.0 < self.now.threads }
+        requires yields { IsYielding t.0 (past self.now.entries) }
+        ensures { result
+            ≡ option_map (edge_of_wish t (length (past self.now.entries)))
+            (latest_wish t.0 (past self.now.entries)) }
+    {
+        let place = self.told.len();
+        self.rows[t.0 as usize].wished_edge(t, place)
     }
 
     /// The hold edge on a lock, which has at most one; none exactly where no thread holds it.

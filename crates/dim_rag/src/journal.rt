@@ -5,14 +5,12 @@ ghost use Rattle.dim_rag.specs.Shown.{HasStack, shown};
 ghost use Rattle.dim_rag.specs.Yielded.{is_learn, yielded};
 
 pub mod brief;
-mod comparing;
 mod span;
 
 use crate::births::Births;
 use crate::entry::{Entry, MissWhy};
 use crate::entry_ref::EntryRef;
 use brief::{Brief, brief_of, entry_of, is_learn, look, yielded};
-use comparing::stands_for;
 use dim_base::{OutOfMemory, Tid};
 use dim_stack::Frame;
 use std::alloc::Global;
@@ -148,23 +146,6 @@ impl Journal {
         ensures { slice_get (map is_learn self.now.entries) place ≡ Some result }
     {
         is_learn(&self.briefs[place as usize])
-    }
-
-    /// Whether this entry is at a place.
-    pub fn is_entry(&self, place: u32, e: &EntryRef<'_>) -> bool
-        requires { HasStack e.now }
-        ensures { IsTrue result ↔ (slice_get self.now.entries place ≡ Some (shown e.now)) }
-    {
-        place < self.len() && self.is_at(place, e)
-    }
-
-    /// Whether this entry is at a place below the length.
-    fn is_at(&self, place: u32, e: &EntryRef<'_>) -> bool
-        requires place { place < length self.now.entries }
-        requires stack { HasStack e.now }
-        ensures { IsTrue result ↔ (slice_get self.now.entries place ≡ Some (shown e.now)) }
-    {
-        stands_for(&self.frames, &self.births, &self.briefs[place as usize], e)
     }
 
     /// The entries in full, in a list of their own.

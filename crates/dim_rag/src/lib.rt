@@ -14,7 +14,7 @@ mod tables;
 pub use births::Births;
 pub use command::{Command, Refusal, Reply};
 pub use entry::{Edge, Entry, MissWhy, Mode, Named, Why, same_entry};
-pub use entry_ref::EntryRef;
+pub use entry_ref::{EntryRef, same_shown};
 pub use graph::{Graph, MOST_HOLDS, Trail, is_member, without};
 pub use journal::Journal;
 pub use tables::Tables;

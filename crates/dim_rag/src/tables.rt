@@ -146,14 +146,6 @@ impl Tables {
         self.journal.yielded(place)
     }
 
-    /// Whether this entry is at a place. It compares them where they lie.
-    pub fn is_entry(&self, place: u32, e: &EntryRef<'_>) -> bool
-        requires { HasStack e.now }
-        ensures { IsTrue result ↔ (slice_get self.now.entries place ≡ Some (shown e.now)) }
-    {
-        self.journal.is_entry(place, e)
-    }
-
     /// The entries in full, oldest first, in a list of their own, which takes more than 400 bytes
     /// for each.
     pub fn entries(&self, alloc: Global) -> Result<Vec<Entry>, OutOfMemory>

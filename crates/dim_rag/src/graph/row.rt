@@ -2,7 +2,7 @@
 ghost use Rattle.std.specs.Prelude.{◌≡◌, ◌≤◌, length};
 ghost use Rattle.dim_rag.specs.declared.entry.Mode.TheVariants.{Allowed, Yielding};
 ghost use Rattle.dim_rag.specs.Born.{with_birth};
-ghost use Rattle.dim_rag.specs.Rows.{idle_row, edge_in, broken, row_may_ask};
+ghost use Rattle.dim_rag.specs.Rows.{idle_row, edge_in, wished_in, broken, row_may_ask};
 
 use crate::births::Births;
 use crate::entry::{Edge, Mode};
@@ -52,6 +52,22 @@ impl Row {
     {
         match self.mode {
             Mode::Allowed { birth: born, .. } if born == birth => self.allow_edge(t),
+            _ => None,
+        }
+    }
+
+    /// The edge that a thread with this row gets when it is broken out at a place. None exactly where
+    /// it doesn't yield.
+    pub fn wished_edge(&self, t: Tid, place: u32) -> Option<Edge>
+        ensures { result ≡ wished_in t place self.now.mode self.now.stack }
+    {
+        match self.mode {
+            Mode::Yielding { l, .. } => Some(Edge {
+                t,
+                l,
+                stack: self.stack,
+                birth: place,
+            }),
             _ => None,
         }
     }

@@ -1,6 +1,6 @@
 use Rattle.std.proofs.Common.{◌<◌, ◌≤◌, ℕ}
 use Rattle.dim_cover.specs.Shelf.{IsVacant}
-use Rattle.dim_cover.proofs.shelf.misses.Given as goal
+use Rattle.dim_cover.proofs.shelf.is_vacant.Given as goal
 
 -- the depths so far
 abbrev pub invariant-loop-depth : goal.invariant-loop-depth
