@@ -3,4 +3,4 @@
 
 mod start;
 
-pub use start::{machines_of, new_gate};
+pub use start::{machines_of, new_gate, new_lean_gate};

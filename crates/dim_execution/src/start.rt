@@ -1,11 +1,11 @@
 //! The gate and the machines at the start.
 ghost use Rattle.std.specs.Prelude.{◌≡◌, ◌≤◌, length, None, IfOk};
 ghost use Rattle.dim_asm.specs.Code.{thread_count};
-ghost use Rattle.dim_execution.specs.Start.{first_gate, gate_of, starts};
+ghost use Rattle.dim_execution.specs.Start.{first_gate, gate_of, learns, starts};
 
 use dim_asm::Program;
 use dim_base::{OutOfMemory, Tid};
-use dim_gate::GateState;
+use dim_gate::{GateState, LeanGate};
 use dim_signature::{Catalogue, MOST_SIGNATURES};
 use dim_vm::Machine;
 use std::alloc::Global;
@@ -27,15 +27,34 @@ pub fn new_gate(
     requires few { length loaded.sigs ≤ 4080 }
     ensures { IfOk result (λ gate. gate ≡ first_gate None (gate_of program.now loaded.sigs depth)) }
 {
-    let learns = LEARNS.min(MOST_SIGNATURES - loaded.len());
-    GateState::new(
-        alloc,
-        program.threads(),
-        program.locks(),
-        loaded,
-        depth,
-        learns,
-    )
+    let learns = learns_beside(&loaded);
+    let (threads, locks) = (program.threads(), program.locks());
+    GateState::new(alloc, threads, locks, loaded, depth, learns)
+}
+
+/// The gate of a program at its start as `new_gate` makes it, but one that keeps no entry.
+pub fn new_lean_gate(
+    alloc: Global,
+    program: &Program,
+    loaded: Catalogue,
+    depth: u8,
+) -> Result<LeanGate, OutOfMemory>
+    requires low { 1 ≤ depth }
+    requires high { depth ≤ 32 }
+    requires few { length loaded.sigs ≤ 4080 }
+    ensures { IfOk result (λ gate. gate ≡ first_gate None (gate_of program.now loaded.sigs depth)) }
+{
+    let learns = learns_beside(&loaded);
+    let (threads, locks) = (program.threads(), program.locks());
+    LeanGate::new(alloc, threads, locks, loaded, depth, learns)
+}
+
+/// How many signatures may be learnt beside those that were loaded, which are at most 4,096.
+fn learns_beside(loaded: &Catalogue) -> u32
+    requires { length loaded.now.sigs ≤ 4096 }
+    ensures { result ≡ learns (length loaded.now.sigs) }
+{
+    LEARNS.min(MOST_SIGNATURES - loaded.len())
 }
 
 /// The machine of each thread at its start, with so much fuel.

@@ -1,5 +1,5 @@
 -- Of what each Learn of a legal history is.
-use Rattle.std.proofs.Common.{◌≡◌, ℕ, refl, inl, inr, List, ◌∷◌, ◌++◌}
+use Rattle.std.proofs.Common.{◌≡◌, ℕ, refl, inl, inr, List, ◌∷◌}
 use Rattle.std.specs.Prelude.{Option, Some, None, if◌then◌else◌, is_none}
 use Rattle.dim_rag.specs.declared.entry.Edge.{Edge}
 use Rattle.dim_rag.specs.declared.entry.Entry.{Entry}

@@ -6,7 +6,7 @@ ghost use Rattle.dim_signature.specs.Sorted.{AreSorted};
 ghost use Rattle.dim_gate.specs.Known.{stacks_of, stack_at};
 ghost use Rattle.dim_gate.specs.Starved.{learn_fault};
 
-use dim_rag::{Births, Tables};
+use dim_rag::{Births, Graph};
 use dim_signature::sort_stacks;
 use dim_stack::{Frame, Stack};
 use std::marker::Model;
@@ -32,10 +32,10 @@ impl Model for EdgeStacks {
 impl EdgeStacks {
     /// Those of the cycle or the starvation with these births.
     #[inline(never)]
-    pub fn of(tables: &Tables, births: &Births) -> EdgeStacks
-        requires { learn_fault tables.now.threads tables.now.locks (past tables.now.entries)
+    pub fn of(graph: &Graph, births: &Births) -> EdgeStacks
+        requires { learn_fault graph.now.threads graph.now.locks (past graph.now.entries)
             births.now ≡ None }
-        ensures value { result ≡ stacks_of births.now (past tables.now.entries) }
+        ensures value { result ≡ stacks_of births.now (past graph.now.entries) }
         ensures ordered { AreSorted result }
         ensures few { length result ≡ length births.now }
         ensures several { 2 ≤ length result }
@@ -43,7 +43,7 @@ impl EdgeStacks {
         let len = births.len() as usize;
         let mut list = [Stack::new(&[Frame { func: 0, at: 0 }]); 32];
         for i in 0..len {
-            list[i] = stack_of(tables, births.at(i as u32));
+            list[i] = stack_of(graph, births.at(i as u32));
         }
         sort_stacks(&mut list[..len]);
         EdgeStacks { len, list }
@@ -58,9 +58,9 @@ impl EdgeStacks {
 }
 
 /// The stack of the edge with a birth.
-fn stack_of(tables: &Tables, birth: u32) -> Stack
-    requires { IsSome (edge_born (past tables.now.entries) birth) }
-    ensures { result ≡ stack_at birth (past tables.now.entries) }
+fn stack_of(graph: &Graph, birth: u32) -> Stack
+    requires { IsSome (edge_born (past graph.now.entries) birth) }
+    ensures { result ≡ stack_at birth (past graph.now.entries) }
 {
-    tables.edge_born(birth).unwrap().stack
+    graph.edge_born(birth).unwrap().stack
 }

@@ -9,6 +9,8 @@ mod gates;
 #[cfg(test)]
 mod graphs;
 #[cfg(test)]
+mod lean;
+#[cfg(test)]
 mod monitors;
 #[cfg(test)]
 mod turns;

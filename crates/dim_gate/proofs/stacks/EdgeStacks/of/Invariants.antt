@@ -7,5 +7,5 @@ use Rattle.dim_gate.proofs.stacks.EdgeStacks.of.Given as goal
 abbrev pub invariant-loop-i : goal.invariant-loop-i
 invariant-loop-i l = record {
   size : length l.list ≡ 32;
-  seen : take l.i l.list ≡ map (λ b. stack_at b (past l.tables.entries)) (take l.i l.births);
+  seen : take l.i l.list ≡ map (λ b. stack_at b (past l.graph.entries)) (take l.i l.births);
 }

@@ -4,7 +4,7 @@ use Rattle.std.proofs.Math.Seq.{take-length}
 use Rattle.dim_signature.specs.Sig.{Sig, fresh}
 use Rattle.dim_signature.specs.Catalogue.{Contents}
 use Rattle.dim_cover.specs.Shelf.{IsShelf}
-use Rattle.dim_gate.proofs.gate.enter_learnt.Goals as goal
+use Rattle.dim_gate.proofs.knowledge.enter_learnt.Goals as goal
 
 -- the signatures before the last one
 front : (sigs : List Sig) (s : Sig) → take (length (sigs ++ s ∷ []) - 1) (sigs ++ s ∷ []) ≡ sigs
