@@ -26,6 +26,6 @@ loop-place-preserved c =
       so_far = goes_further (constants c.args.self.now.gate) p c.args.self.now.fuel c.args.trace.now.entries c.loop-place.place old.gate old.machines.items c.loop-place.invariant.so_far (shown c.look-e.result) c.look-e.ensures.entry
           c.fault.new.self.gate c.fault.new.self.machines.items fault (c.fault.ensures.gate c.in_default.is) at;
       fuel = c.fault.ensures.fuel ∙ fuel;
-      followed = goes_on old.gate c.fault.new.self.gate c.tables.result.now c.args.trace.now.entries c.loop-place.place (shown c.look-e.result) c.is_followed.result c.loop-place.followed c.if-is_followed.followed
-          c.tables.ensures.tables c.look-e.ensures.entry c.is_followed.ensures c.loop-place.invariant.followed joined (c.fault.ensures.gate c.in_default.is);
+      followed = goes_on old.gate c.fault.new.self.gate c.graph.result.now c.args.trace.now.entries c.loop-place.place (shown c.look-e.result) c.is_followed.result c.loop-place.followed c.if-is_followed.followed
+          c.graph.ensures.graph c.look-e.ensures.entry c.is_followed.ensures c.loop-place.invariant.followed joined (c.fault.ensures.gate c.in_default.is);
     }
