@@ -18,7 +18,7 @@ use crate::raising::{all_lowered, raise_all};
 use dim_asm::Program;
 use dim_base::OutOfMemory;
 use dim_cover::Index;
-use dim_rag::{EntryRef, Tables};
+use dim_rag::{EntryRef, Graph};
 use dim_signature::Catalogue;
 use dim_trace::KeptTrace;
 use std::alloc::Global;
@@ -26,7 +26,7 @@ use std::alloc::Global;
 /// The entries so far, and each loaded signature at the least depth at which they are legal.
 #[derive(Drop)]
 pub struct Follower {
-    tables: Tables,
+    graph: Graph,
     /// The edges of the entries.
     index: Index,
     all: Vec<Lowered>,
@@ -40,21 +40,21 @@ impl Follower {
         loaded: &Catalogue,
         entries: u32,
     ) -> Result<Follower, OutOfMemory>
-        ensures threads { IfOk result (λ f. f.tables.threads ≡ thread_count program.now) }
-        ensures locks { IfOk result (λ f. f.tables.locks ≡ lock_count program.now) }
-        ensures empty { IfOk result (λ f. f.tables.entries ≡ []) }
-        ensures room { IfOk result (λ f. entries ≤ f.tables.spare) }
+        ensures threads { IfOk result (λ f. f.graph.threads ≡ thread_count program.now) }
+        ensures locks { IfOk result (λ f. f.graph.locks ≡ lock_count program.now) }
+        ensures empty { IfOk result (λ f. f.graph.entries ≡ []) }
+        ensures room { IfOk result (λ f. entries ≤ f.graph.spare) }
         ensures index { IfOk result (λ f. f.index
             ≡ record { room = thread_count program.now + lock_count program.now; edges = [] }) }
         ensures lowered { IfOk result (λ f. AreLowered loaded.now.sigs f.all.items) }
         ensures ones { IfOk result (λ f. (i : ℕ) (x : Lowered) → slice_get f.all.items i ≡ Some x
             → x.depth ≡ 1) }
     {
-        let mut tables = Tables::new(alloc, program.threads(), program.locks())?;
-        tables.reserve(entries)?;
+        let mut graph = Graph::new(alloc, program.threads(), program.locks())?;
+        graph.reserve(entries);
         let index = Index::new(alloc, program.threads(), program.locks())?;
         let all = all_lowered(alloc, loaded)?;
-        Ok(Follower { tables, index, all })
+        Ok(Follower { graph, index, all })
     }
 
     /// Follows all entries of a trace.
@@ -66,15 +66,15 @@ impl Follower {
         trace: &KeptTrace,
     ) -> Result<(), OutOfMemory>
         requires filed { AreFiled innermost.now.files loaded.now.sigs }
-        requires empty { self.old.tables.entries ≡ [] }
-        requires room { length trace.now.entries ≤ self.old.tables.spare }
+        requires empty { self.old.graph.entries ≡ [] }
+        requires room { length trace.now.entries ≤ self.old.graph.spare }
         requires index { self.old.index
             ≡ record {
-              room = self.old.tables.threads + self.old.tables.locks;
+              room = self.old.graph.threads + self.old.graph.locks;
               edges = [];
             } }
         requires fits { Fits (past trace.now.entries) }
-        requires in_range { AreInRange self.old.tables.threads self.old.tables.locks
+        requires in_range { AreInRange self.old.graph.threads self.old.graph.locks
             (past trace.now.entries) }
         requires lowered { AreLowered loaded.now.sigs self.old.all.items }
         requires ones { (i : ℕ) (x : Lowered) → slice_get self.old.all.items i ≡ Some x
@@ -99,25 +99,25 @@ impl Follower {
         e: &EntryRef<'_>,
     ) -> Result<(), OutOfMemory>
         requires filed { AreFiled innermost.now.files loaded.now.sigs }
-        requires room { 1 ≤ self.old.tables.spare }
+        requires room { 1 ≤ self.old.graph.spare }
         requires stack { HasStack e.now }
-        requires in_range { IsInRange self.old.tables.threads self.old.tables.locks (shown e.now) }
-        requires fits { FitsAfter (past self.old.tables.entries) (shown e.now) }
+        requires in_range { IsInRange self.old.graph.threads self.old.graph.locks (shown e.now) }
+        requires fits { FitsAfter (past self.old.graph.entries) (shown e.now) }
         requires index { self.old.index
             ≡ record {
-              room = self.old.tables.threads + self.old.tables.locks;
-              edges = all_edges (past self.old.tables.entries);
+              room = self.old.graph.threads + self.old.graph.locks;
+              edges = all_edges (past self.old.graph.entries);
             } }
         requires lowered { AreLowered loaded.now.sigs self.old.all.items }
-        ensures tables { OnOk result (self.new.tables ≡ record self.old.tables {
-          entries = self.old.tables.entries ++ shown e.now ∷ [];
-          spare = self.old.tables.spare - 1;
+        ensures graph { OnOk result (self.new.graph ≡ record self.old.graph {
+          entries = self.old.graph.entries ++ shown e.now ∷ [];
+          spare = self.old.graph.spare - 1;
         }) }
         ensures index { OnOk result (self.new.index
             ≡ record self.old.index
-            { edges = all_edges (shown e.now ∷ past self.old.tables.entries) }) }
+            { edges = all_edges (shown e.now ∷ past self.old.graph.entries) }) }
         ensures lowered { OnOk result (AreLowered loaded.now.sigs self.new.all.items) }
-        ensures next { OnOk result (AreNext loaded.now.sigs (past self.old.tables.entries)
+        ensures next { OnOk result (AreNext loaded.now.sigs (past self.old.graph.entries)
             (shown e.now) self.old.all.items self.new.all.items) }
     {
         raise_all(
@@ -125,12 +125,12 @@ impl Follower {
             &mut self.all,
             loaded,
             innermost,
-            &self.tables,
+            &self.graph,
             &self.index,
             e,
         )?;
-        self.index.tell_ref(&self.tables, e);
-        self.tables.enter_ref(e);
+        self.index.tell_ref(&self.graph, e);
+        self.graph.enter_ref(e);
         Ok(())
     }
 

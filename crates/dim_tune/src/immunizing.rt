@@ -19,6 +19,9 @@ use dim_run::{KeptRun, Settings};
 use dim_stack::Names;
 use std::alloc::Global;
 
+/// How many bytes the room has that is asked for before the first attempt. An attempt takes less.
+const ROOM: usize = 16 * 1024 * 1024;
+
 /// Runs a program again and again, first from the signatures of a history, and then each time from
 /// those that the run before left. It goes on while a run ends deadlocked and has learnt, and what
 /// it leaves has at most 4,080 signatures and a text of at most 6,291,456 bytes; and there are at
@@ -56,10 +59,21 @@ pub fn immunize_kept(
         ≡ sigs_after program.now s.now history.catalogue.sigs (length made.lines.items)) }
     ensures near { IfOk result (λ made. AreNear made.history.catalogue.sigs) }
 {
+    warm_up(alloc)?;
     let lines = Vec::new(alloc);
     let mut made = Made { lines, history };
     let last = make_all(alloc, &mut made, program, s, attempts)?;
     ended(alloc, made, last)
+}
+
+/// Asks for room once and gives it back, before the first attempt.
+///
+/// A system's allocator takes that as the measure of what to keep. So what an attempt gives back
+/// stays for the next one, and isn't handed back to the system, which would clear it again for each
+/// attempt.
+fn warm_up(alloc: Global) -> Result<(), OutOfMemory> {
+    let _room: Vec<u8> = Vec::with_capacity(alloc, ROOM)?;
+    Ok(())
 }
 
 /// Makes the attempts that `immunize_kept` makes, on a copy of the history, and lists the entries

@@ -14,7 +14,7 @@ use crate::innermost::Innermost;
 use crate::lowered::Lowered;
 use dim_base::OutOfMemory;
 use dim_cover::Index;
-use dim_rag::{Edge, EntryRef, Tables};
+use dim_rag::{Edge, EntryRef, Graph};
 use dim_signature::{Catalogue, Signature};
 use std::alloc::Global;
 
@@ -53,23 +53,23 @@ pub fn raise_all(
     all: &mut Vec<Lowered>,
     loaded: &Catalogue,
     innermost: &Innermost,
-    tables: &Tables,
+    graph: &Graph,
     index: &Index,
     e: &EntryRef<'_>,
 ) -> Result<(), OutOfMemory>
     requires lowered { AreLowered loaded.now.sigs all.old.items }
     requires filed { AreFiled innermost.now.files loaded.now.sigs }
     requires stack { HasStack e.now }
-    requires in_range { IsInRange tables.now.threads tables.now.locks (shown e.now) }
-    requires edges { index.now.edges ≡ all_edges (past tables.now.entries) }
+    requires in_range { IsInRange graph.now.threads graph.now.locks (shown e.now) }
+    requires edges { index.now.edges ≡ all_edges (past graph.now.entries) }
     ensures lowered { OnOk result (AreLowered loaded.now.sigs all.new.items) }
-    ensures next { OnOk result (AreNext loaded.now.sigs (past tables.now.entries) (shown e.now)
+    ensures next { OnOk result (AreNext loaded.now.sigs (past graph.now.entries) (shown e.now)
         all.old.items all.new.items) }
 {
-    match &asked(tables, e) {
+    match &asked(graph, e) {
         Some(wish) => {
             let near = innermost.at(&wish.first_frame());
-            let edge = edge_after(tables, wish);
+            let edge = edge_after(graph, wish);
             raise_each(alloc, all, loaded, near, index, &edge, e)
         }
         None => Ok(()),

@@ -34,7 +34,7 @@ edge_asked h e o w told is = sym told ∙ ap (option_map (λ (x : Wish). edge_af
 
 pub raise_each-requires-clause-newest : goal.raise_each-requires-clause-newest
 raise_each-requires-clause-newest c =
-    let h = past c.args.tables.now.entries in
+    let h = past c.args.graph.now.entries in
     let w = c.in-Some.wish in
     let new : Edge = edge_after w.t w.l w.stack.now h in
     let a : asked (shown c.args.e.now) h ≡ Some new = edge_asked h (shown c.args.e.now) c.asked.result w c.asked.ensures.edge c.in-Some.is in
@@ -43,7 +43,7 @@ raise_each-requires-clause-newest c =
 
 pub returns-in-Some-clause-next : goal.returns-in-Some-clause-next
 returns-in-Some-clause-next c =
-    let h = past c.args.tables.now.entries in
+    let h = past c.args.graph.now.entries in
     let sigs = c.args.loaded.now.sigs in
     let e = shown c.args.e.now in
     let w = c.in-Some.wish in
