@@ -10,7 +10,7 @@ use Rattle.dim_text.specs.Naming.{IsName}
 use Rattle.std.specs.Ordering.{match_ordering}
 use Rattle.std.specs.declared.cmp.Ordering.{Ordering}
 use Rattle.std.specs.declared.cmp.Ordering.TheVariants.{Less, Equal, Greater}
-use Rattle.dim_stack.specs.Names.{table_of, with_name, name_cmp, number_of as number_among}
+use Rattle.dim_stack.specs.Names.{table_of, with_name, name_cmp, name_number as number_among}
 use Rattle.dim_stack.proofs.Exports.{missing, has_own}
 use Rattle.dim_asm.specs.Code.{Code, Function, lock_count, func_count, func_names, number_in, name_in, locals_in, op_in, op_count, AreNames, IsFunction, IsProgram}
 use Rattle.dim_asm.specs.Bound.{own_names, numbered, bound, KeptLaw, NumbersLaw, LastLaw, OwnNamesLaw}

@@ -11,7 +11,7 @@ use Rattle.dim_text.specs.Naming.{IsName}
 use Rattle.dim_asm.specs.declared.reader.Stage.{Stage}
 use Rattle.dim_asm.specs.declared.reader.Stage.TheVariants as stage
 use Rattle.dim_asm.specs.Code.{has_name, AreNames}
-use Rattle.dim_asm.specs.Source.{Source, Draft, DraftFunction, DraftStart, Statement, Head, LockLine, FuncLine, OpLine, EndLine, ThreadLine, Close, names_of, draft_count, last_size, size_in, with_draft, taken}
+use Rattle.dim_asm.specs.Source.{Source, Draft, DraftFunction, DraftStart, Statement, Head, LockLine, FuncLine, OpLine, EndLine, ThreadLine, Close, names_of, draft_count, last_size, size_in, with_draft, with_statement}
 use Rattle.dim_asm.specs.Judging.{State, after, stage_after, nothing, judged, step, at_end, closed}
 use Rattle.dim_asm.specs.Spelling.{open_function, function_lines, open_functions, down_to_locks, down_to_functions, down_to_threads, lines_so_far}
 use Rattle.dim_asm.specs.Grammar.{may_follow, IsDraft, HasPlace, IsOpen, IsStart, AreEnded, AreFilled, IsAt, IsFront, Fits, IsSource}
@@ -88,7 +88,7 @@ some-push : (funcs : List DraftFunction) (f : DraftFunction) → 1 ≤ length (f
 some-push funcs f = omega (arith, length-append funcs (f ∷ []))
 
 -- ---- what holds behind a line
-func_front : (s : Source) (name : List ℕ) (locals : ℕ) → IsFront s → HasPlace s (FuncLine name locals) → IsFront (taken (FuncLine name locals) s)
+func_front : (s : Source) (name : List ℕ) (locals : ℕ) → IsFront s → HasPlace s (FuncLine name locals) → IsFront (with_statement (FuncLine name locals) s)
 func_front s name locals h p =
     let f : DraftFunction = record { name = name; locals = locals; drafts = [] } in
     record {
@@ -102,7 +102,7 @@ func_front s name locals h p =
       starts = h.starts;
     }
 
-front_after : (s : Source) (x : Statement) → IsFront s → HasPlace s x → HasRoom x s → IsFront (taken x s)
+front_after : (s : Source) (x : Statement) → IsFront s → HasPlace s x → HasRoom x s → IsFront (with_statement x s)
 front_after s Head h p r = h
 front_after s (LockLine name) h p r = record {
   few_locks = omega (arith, length-append s.locks (name ∷ []), r.1);
@@ -154,7 +154,7 @@ room at s Close a h f p = tt
 some_threads : (threads : List DraftStart) (func : List ℕ) (argument : ℤ) → 1 ≤ length (threads ++ record { func = func; argument = argument } ∷ [])
 some_threads threads func argument = omega (arith, length-append threads (record { func = func; argument = argument } ∷ []))
 
-at_after : (at : Stage) (s : Source) (x : Statement) → IsAt at s → may_follow at x ≡ true → HasPlace s x → IsAt (stage_after x) (taken x s)
+at_after : (at : Stage) (s : Source) (x : Statement) → IsAt at s → may_follow at x ≡ true → HasPlace s x → IsAt (stage_after x) (with_statement x s)
 at_after stage.Head s Head a f p = rw a (refl, refl)
 at_after stage.Locks s (LockLine name) a f p = a
 at_after stage.Locks s (FuncLine name locals) a f p =
@@ -198,7 +198,7 @@ func-lines (f ∷ []) g = ap (λ ls. ls ++ open_function g) (sym (append-nil (fu
 func-lines (f ∷ k ∷ funcs) g =
     ap (λ ls. function_lines f ++ ls) (func-lines (k ∷ funcs) g) ∙ sym (append_assoc (function_lines f) (flat_map function_lines (k ∷ funcs)) (open_function g))
 
-pub lines_after : (at : Stage) (s : Source) (x : Statement) → IsAt at s → may_follow at x ≡ true → lines_so_far (stage_after x) (taken x s) ≡ lines_so_far at s ++ x ∷ []
+pub lines_after : (at : Stage) (s : Source) (x : Statement) → IsAt at s → may_follow at x ≡ true → lines_so_far (stage_after x) (with_statement x s) ≡ lines_so_far at s ++ x ∷ []
 lines_after stage.Head s Head a f = rw a refl
 lines_after stage.Locks s (LockLine name) a f = ap (λ ls. Head ∷ ls) (map_push (λ n. LockLine n) s.locks name)
 lines_after stage.Locks s (FuncLine name locals) a f =

@@ -1,7 +1,7 @@
 -- Programs whose functions have their numbers in a table of names.
 use Rattle.std.specs.Prelude.{◌≡◌, ℕ, ◌<◌, List, map, unwrap_or, Some}
-use Rattle.dim_stack.specs.Names.{HasNames, table_of, number_of as number_among}
-use Rattle.dim_asm.specs.Code.{Code, Function, func_count, func_names, func_name_of, number_of, locals_of, op_at}
+use Rattle.dim_stack.specs.Names.{HasNames, table_of, name_number as number_among}
+use Rattle.dim_asm.specs.Code.{Code, Function, func_count, func_names, func_name_of, function_number, locals_of, op_at}
 
 -- the table of the names of its functions
 abbrev pub own_names : Code → List (List ℕ)
@@ -10,7 +10,7 @@ own_names p = table_of (func_names p.funcs)
 -- each function has the number that its name has in the table
 abbrev pub IsBound : List (List ℕ) → Code → Type 0
 IsBound names p = (f : ℕ) → f < func_count p
-    → number_among names (func_name_of p f) ≡ Some (number_of p f)
+    → number_among names (func_name_of p f) ≡ Some (function_number p f)
 
 -- a function with its number in a table, and with 0 where its name isn't there
 abbrev pub numbered : List (List ℕ) → Function → Function

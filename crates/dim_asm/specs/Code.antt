@@ -43,8 +43,8 @@ abbrev pub number_in : Option Function → ℕ
 number_in None = 0
 number_in (Some f) = f.number
 
-abbrev pub number_of : Code → ℕ → ℕ
-number_of p f = number_in (slice_get p.funcs f)
+abbrev pub function_number : Code → ℕ → ℕ
+function_number p f = number_in (slice_get p.funcs f)
 
 -- how many locals f has
 abbrev pub locals_in : Option Function → ℕ

@@ -17,7 +17,7 @@ use Rattle.dim_asm.specs.declared.reader.Stage.{Stage}
 use Rattle.dim_asm.specs.declared.reader.Stage.TheVariants as stage
 use Rattle.dim_asm.specs.Faults.{fault}
 use Rattle.dim_asm.specs.Code.{has_name}
-use Rattle.dim_asm.specs.Source.{Source, Draft, Ready, Refers, Statement, Head, LockLine, FuncLine, OpLine, EndLine, ThreadLine, Close, names_of, draft_count, last_size, taken}
+use Rattle.dim_asm.specs.Source.{Source, Draft, Ready, Refers, Statement, Head, LockLine, FuncLine, OpLine, EndLine, ThreadLine, Close, names_of, draft_count, last_size, with_statement}
 use Rattle.dim_asm.specs.Table.{mnemonic_of, most_of, counted}
 
 abbrev pub head : List ℕ
@@ -141,7 +141,7 @@ stage_after (ThreadLine func argument) = stage.Threads
 stage_after Close = stage.Closed
 
 abbrev pub after : Statement → State → State
-after statement s = record { stage = stage_after statement; source = taken statement s.source }
+after statement s = record { stage = stage_after statement; source = with_statement statement s.source }
 
 -- the state behind a line
 unfoldable pub step : State → List ℕ → Result State AsmKind

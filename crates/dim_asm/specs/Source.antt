@@ -56,11 +56,11 @@ pub data Statement : Type 0 where
   Close : Statement
 
 -- what has been read behind a line
-abbrev pub taken : Statement → Source → Source
-taken Head s = s
-taken (LockLine name) s = record s { locks = s.locks ++ name ∷ [] }
-taken (FuncLine name locals) s = record s { funcs = s.funcs ++ record { name = name; locals = locals; drafts = [] } ∷ [] }
-taken (OpLine draft) s = record s { funcs = with_draft draft s.funcs }
-taken EndLine s = s
-taken (ThreadLine func argument) s = record s { threads = s.threads ++ record { func = func; argument = argument } ∷ [] }
-taken Close s = s
+abbrev pub with_statement : Statement → Source → Source
+with_statement Head s = s
+with_statement (LockLine name) s = record s { locks = s.locks ++ name ∷ [] }
+with_statement (FuncLine name locals) s = record s { funcs = s.funcs ++ record { name = name; locals = locals; drafts = [] } ∷ [] }
+with_statement (OpLine draft) s = record s { funcs = with_draft draft s.funcs }
+with_statement EndLine s = s
+with_statement (ThreadLine func argument) s = record s { threads = s.threads ++ record { func = func; argument = argument } ∷ [] }
+with_statement Close s = s

@@ -1,7 +1,7 @@
 //! Programs, as those see them who run them.
 ghost use Rattle.std.specs.Prelude.{◌≡◌, ◌<◌, ◌≤◌, length, slice_get, option_copied, IfSome};
 ghost use Rattle.std.specs.Option.{option_map};
-ghost use Rattle.dim_asm.specs.Code.{lock_count, func_count, thread_count, op_at, locals_of, number_of, start_of, lock_name_of, func_name_of, place_of, IsFine, IsFunction};
+ghost use Rattle.dim_asm.specs.Code.{lock_count, func_count, thread_count, op_at, locals_of, function_number, start_of, lock_name_of, func_name_of, place_of, IsFine, IsFunction};
 
 use crate::symbols::Symbols;
 use crate::{Op, Start};
@@ -134,7 +134,7 @@ impl Program {
 
     /// A function's number in the table of names to which the program is bound.
     pub fn number(&self, f: u32) -> u32
-        ensures { result ≡ number_of self.now f }
+        ensures { result ≡ function_number self.now f }
     {
         match self.func(f) {
             Some(func) => func.number,

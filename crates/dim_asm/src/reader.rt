@@ -3,7 +3,7 @@ ghost use Rattle.std.specs.Prelude.{◌≡◌, ◌<◌, false, Some, OnOk, lengt
 ghost use Rattle.dim_text.specs.Reading.{Gives, Leaves, in_line};
 ghost use Rattle.dim_asm.specs.Judging.{stage_after, step, at_end, after, nothing};
 ghost use Rattle.dim_asm.specs.Code.{has_name};
-ghost use Rattle.dim_asm.specs.Source.{taken, FuncLine, OpLine, ThreadLine};
+ghost use Rattle.dim_asm.specs.Source.{with_statement, FuncLine, OpLine, ThreadLine};
 ghost use Rattle.dim_asm.specs.Faults.{fault, fault_of};
 ghost use Rattle.dim_asm.specs.Seen.{seen_draft, seen_statement};
 
@@ -83,7 +83,7 @@ impl<'a> Reader<'a> {
         requires free { has_name self.old.names name.now ≡ false }
         requires few { length self.old.names < 256 }
         ensures taken { OnOk result
-            (read self.new ≡ taken (FuncLine name.now locals) (read self.old)) }
+            (read self.new ≡ with_statement (FuncLine name.now locals) (read self.old)) }
         ensures counted { OnOk result (IsCounted self.new) }
     {
         self.names.add(alloc, name)?;
@@ -101,7 +101,7 @@ impl<'a> Reader<'a> {
         requires some { 0 < vec_len self.old.funcs }
         requires few { self.old.ops < 65536 }
         ensures taken { OnOk result
-            (read self.new ≡ taken (OpLine (seen_draft draft.entry)) (read self.old)) }
+            (read self.new ≡ with_statement (OpLine (seen_draft draft.entry)) (read self.old)) }
         ensures counted { OnOk result (IsCounted self.new) }
     {
         let last = self.funcs.len() - 1;
@@ -113,7 +113,7 @@ impl<'a> Reader<'a> {
 
     fn take_thread(&mut self, func: &'a str, argument: i64) -> Result<(), OutOfMemory>
         ensures taken { OnOk result
-            (read self.new ≡ taken (ThreadLine func.now argument) (read self.old)) }
+            (read self.new ≡ with_statement (ThreadLine func.now argument) (read self.old)) }
         ensures counted { IsCounted self.old → IsCounted self.new }
     {
         self.threads.push(DraftStart { func, argument })?;
@@ -125,7 +125,7 @@ impl<'a> Reader<'a> {
         requires counted { IsCounted self.old }
         requires room { HasRoom (seen_statement statement) (read self.old) }
         ensures taken { OnOk result
-            (read self.new ≡ taken (seen_statement statement.entry) (read self.old)) }
+            (read self.new ≡ with_statement (seen_statement statement.entry) (read self.old)) }
         ensures counted { OnOk result (IsCounted self.new) }
     {
         match statement {

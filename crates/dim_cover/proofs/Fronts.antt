@@ -14,7 +14,7 @@ use Rattle.dim_rag.specs.declared.entry.Edge.{Edge}
 use Rattle.dim_rag.specs.Born.{In}
 use Rattle.dim_cover.specs.Cover.{agrees}
 use Rattle.dim_cover.specs.Shelf.{bucket}
-use Rattle.dim_cover.specs.Index.{AreFronts, AreLinked, AreTurned, GoOnNear, IsKept, common, edge_in, edges_in, front, fronted, link, next_of, no_edge, on_at, turned}
+use Rattle.dim_cover.specs.Index.{AreFronts, AreLinked, AreTurned, GoOnNear, AreSlots, common, edge_in, edges_in, front, fronted, link, next_of, no_edge, on_at, turned}
 use Rattle.dim_cover.proofs.Common.{agree_common, lt_zero}
 use Rattle.dim_cover.proofs.Groups.{frames_same, same_frames}
 use Rattle.dim_cover.proofs.Kept.{in_front}
@@ -203,7 +203,7 @@ module _ (edges : List Edge) where
       }
 
 -- a count is small
-pub few_fronted : (edges : List Edge) (links : List (List ℕ)) (used free : List ℕ) (b : ℕ) → IsKept used free edges links → fronted b (edges_in edges used) ≤ 288
+pub few_fronted : (edges : List Edge) (links : List (List ℕ)) (used free : List ℕ) (b : ℕ) → AreSlots used free edges links → fronted b (edges_in edges used) ≤ 288
 few_fronted edges links used free b k =
     let size : length (edges_in edges used) ≡ length used = length-map used (edge_in edges) in
     let le = few b (edges_in edges used) in

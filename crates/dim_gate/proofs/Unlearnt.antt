@@ -14,7 +14,7 @@ use Rattle.dim_rag.specs.Starvation.{starved_from, starved}
 use Rattle.dim_rag.proofs.Exports.{found_same, starved_same}
 use Rattle.dim_signature.specs.Sig.{Sig}
 use Rattle.dim_signature.specs.Sorted.{sorted}
-use Rattle.dim_signature.specs.Catalogue.{number_of}
+use Rattle.dim_signature.specs.Catalogue.{signature_number}
 use Rattle.dim_signature.proofs.Exports.{found, missing}
 use Rattle.dim_gate.specs.Known.{Known, knowns, known_sigs, learnt, learnt_sig, stack_of, stacks_of}
 use Rattle.dim_gate.specs.Starved.{is_unlearnt, if_unlearnt, unlearnt}
@@ -27,10 +27,10 @@ is_none_of : {X : Type 0} (o : Option X) → o ≡ None → is_none o ≡ true
 is_none_of o q = ap is_none q
 
 -- who has no number among more has none among fewer
-still_missing : (sigs more : List Sig) (stacks : List (List Frame)) → number_of (sigs ++ more) stacks ≡ None → number_of sigs stacks ≡ None
-still_missing sigs more stacks q = go (number_of sigs stacks) refl
+still_missing : (sigs more : List Sig) (stacks : List (List Frame)) → signature_number (sigs ++ more) stacks ≡ None → signature_number sigs stacks ≡ None
+still_missing sigs more stacks q = go (signature_number sigs stacks) refl
   where
-    go : (o : Option ℕ) → number_of sigs stacks ≡ o → number_of sigs stacks ≡ None
+    go : (o : Option ℕ) → signature_number sigs stacks ≡ o → signature_number sigs stacks ≡ None
     go None r = r
     go (Some i) r =
         let w = found sigs stacks i r in
@@ -40,7 +40,7 @@ still_missing sigs more stacks q = go (number_of sigs stacks) refl
         absurd (missing (sigs ++ more) stacks q i w.0 (omega (arith, low, size)) (ap (λ (s : Sig). s.stacks) at ∙ w.2))
 
 -- the last of some signatures has a number
-last_known : (sigs : List Sig) (s : Sig) (stacks : List (List Frame)) → s.stacks ≡ stacks → number_of (sigs ++ s ∷ []) stacks ≡ None → ⊥
+last_known : (sigs : List Sig) (s : Sig) (stacks : List (List Frame)) → s.stacks ≡ stacks → signature_number (sigs ++ s ∷ []) stacks ≡ None → ⊥
 last_known sigs s stacks same q =
     let size : length (sigs ++ s ∷ []) ≡ length sigs + 1 = length_push sigs s in
     missing (sigs ++ s ∷ []) stacks q (length sigs) s (omega (arith, size)) (ap (λ (x : Sig). x.stacks) (get_or-append_seam sigs s [] s) ∙ same)
@@ -68,20 +68,20 @@ module _ (n m cap : ℕ) (loaded : List Sig) (depth : ℕ) (b : List ℕ) (h : L
   stacks_same : (ps : List ℕ) → stacks_of ps g ≡ stacks_of ps h
   stacks_same ps = ap (λ f. sorted (map (λ p. stack_of (f p)) ps)) (found_same b h)
 
-  pub missing_before : (ps : List ℕ) → number_of after (stacks_of ps g) ≡ None → number_of before (stacks_of ps h) ≡ None
+  pub missing_before : (ps : List ℕ) → signature_number after (stacks_of ps g) ≡ None → signature_number before (stacks_of ps h) ≡ None
   missing_before ps q =
       still_missing before (learnt_sig depth b h ∷ []) (stacks_of ps h)
-      (subst (λ (xs : List Sig). number_of xs (stacks_of ps h) ≡ None) after_is (subst (λ ss. number_of after ss ≡ None) (stacks_same ps) q))
+      (subst (λ (xs : List Sig). signature_number xs (stacks_of ps h) ≡ None) after_is (subst (λ ss. signature_number after ss ≡ None) (stacks_same ps) q))
 
   -- what isn't to be learnt before isn't to be learnt after
   not_after : (ps : List ℕ) → is_unlearnt cap before h ps ≡ false → is_unlearnt cap after g ps ≡ false
   not_after ps q = elim (cases_Bool (is_unlearnt cap after g ps)) [
     | inr never ↦ never
     | inl yes_after ↦
-        let new = missing_before ps (none_is (number_of after (stacks_of ps g)) (and_parts _ _ yes_after).0) in
+        let new = missing_before ps (none_is (signature_number after (stacks_of ps g)) (and_parts _ _ yes_after).0) in
         let room : length after + 16 < cap = ltb-true (length after + 16) cap (and_parts _ _ yes_after).1 in
         let less : length before + 16 < cap = (let l = longer in omega (arith, l, room)) in
-        absurd (false≢true (sym q ∙ and_from _ _ (is_none_of (number_of before (stacks_of ps h)) new) (lt-ltb (length before + 16) cap less)))
+        absurd (false≢true (sym q ∙ and_from _ _ (is_none_of (signature_number before (stacks_of ps h)) new) (lt-ltb (length before + 16) cap less)))
   ]
 
   if_none : (sigs : List Sig) (k : List Entry) (ps : List ℕ) → is_unlearnt cap sigs k ps ≡ false → if_unlearnt cap sigs k ps ≡ None
@@ -105,9 +105,9 @@ module _ (n m cap : ℕ) (loaded : List Sig) (depth : ℕ) (b : List ℕ) (h : L
   done = elim (cases_Bool (is_unlearnt cap after g b)) [
     | inr never ↦ never
     | inl yes_after ↦
-        let q = none_is (number_of after (stacks_of b g)) (and_parts _ _ yes_after).0 in
+        let q = none_is (signature_number after (stacks_of b g)) (and_parts _ _ yes_after).0 in
         absurd (last_known before (learnt_sig depth b h) (stacks_of b h) refl
-        (subst (λ (xs : List Sig). number_of xs (stacks_of b h) ≡ None) after_is (subst (λ ss. number_of after ss ≡ None) (stacks_same b) q)))
+        (subst (λ (xs : List Sig). signature_number xs (stacks_of b h) ≡ None) after_is (subst (λ ss. signature_number after ss ≡ None) (stacks_same b) q)))
   ]
 
   pub learnt_done : (set : ℕ) → unlearnt n m cap before h set ≡ Some b → unlearnt n m cap after g set ≡ None
@@ -124,15 +124,15 @@ module _ (n m cap : ℕ) (loaded : List Sig) (depth : ℕ) (b : List ℕ) (h : L
           ∙ subst (λ (x : List ℕ). if_unlearnt cap after g x ≡ None) (sym (second ps (is_unlearnt cap before h ps) q)) (if_none after g b done)
 
   -- it is new, and there is room for it
-  pub is_new : (set : ℕ) → unlearnt n m cap before h set ≡ Some b → (number_of before (stacks_of b h) ≡ None) × (length before + 16 < cap) × (starved n m h set ≡ Some b)
+  pub is_new : (set : ℕ) → unlearnt n m cap before h set ≡ Some b → (signature_number before (stacks_of b h) ≡ None) × (length before + 16 < cap) × (starved n m h set ≡ Some b)
   is_new set q = go (starved n m h set) refl q
     where
-      second : (ps : List ℕ) (x : Bool) → is_unlearnt cap before h ps ≡ x → starved n m h set ≡ Some ps → (if x then Some ps else None) ≡ Some b → (number_of before (stacks_of b h) ≡ None) × (length before + 16 < cap) × (starved n m h set ≡ Some b)
+      second : (ps : List ℕ) (x : Bool) → is_unlearnt cap before h ps ≡ x → starved n m h set ≡ Some ps → (if x then Some ps else None) ≡ Some b → (signature_number before (stacks_of b h) ≡ None) × (length before + 16 < cap) × (starved n m h set ≡ Some b)
       second ps false r s q = absurd (cc)
       second ps true r s q =
           let same : ps ≡ b = cc in
-          (subst (λ (x : List ℕ). number_of before (stacks_of x h) ≡ None) same (none_is (number_of before (stacks_of ps h)) (and_parts _ _ r).0), ltb-true (length before + 16) cap (and_parts _ _ r).1, s ∙ q)
+          (subst (λ (x : List ℕ). signature_number before (stacks_of x h) ≡ None) same (none_is (signature_number before (stacks_of ps h)) (and_parts _ _ r).0), ltb-true (length before + 16) cap (and_parts _ _ r).1, s ∙ q)
 
-      go : (o : Option (List ℕ)) → starved n m h set ≡ o → option_and_then (if_unlearnt cap before h) o ≡ Some b → (number_of before (stacks_of b h) ≡ None) × (length before + 16 < cap) × (starved n m h set ≡ Some b)
+      go : (o : Option (List ℕ)) → starved n m h set ≡ o → option_and_then (if_unlearnt cap before h) o ≡ Some b → (signature_number before (stacks_of b h) ≡ None) × (length before + 16 < cap) × (starved n m h set ≡ Some b)
       go None r q = absurd (cc)
       go (Some ps) r q = second ps (is_unlearnt cap before h ps) refl r q

@@ -5,7 +5,7 @@ use Rattle.dim_rag.specs.declared.entry.Entry.{Entry}
 use Rattle.dim_rag.specs.Certificate.{cycle_fault}
 use Rattle.dim_rag.specs.Starvation.{starvation_fault, starved}
 use Rattle.dim_signature.specs.Sig.{Sig}
-use Rattle.dim_signature.specs.Catalogue.{number_of}
+use Rattle.dim_signature.specs.Catalogue.{signature_number}
 use Rattle.dim_gate.specs.Known.{stacks_of}
 
 -- where places are neither the births of a cycle nor those of a starvation, the first position that
@@ -21,7 +21,7 @@ kept_free n m h births = if is_none (cycle_fault n m h births) then 0 else 16
 -- whether the starvation with these births is to be learnt, where sigs are known and at most cap
 -- may be: its signature isn't known, and 16 places stay free behind its Learn
 abbrev pub is_unlearnt : ℕ → List Sig → List Entry → List ℕ → Bool
-is_unlearnt cap sigs h births = is_none (number_of sigs (stacks_of births h))
+is_unlearnt cap sigs h births = is_none (signature_number sigs (stacks_of births h))
     && nat_lt (length sigs + 16) cap
 
 -- these births, if the starvation is to be learnt

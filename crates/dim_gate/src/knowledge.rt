@@ -4,7 +4,7 @@ ghost use Rattle.dim_rag.specs.declared.entry.Entry.TheVariants.{Learn};
 ghost use Rattle.dim_rag.specs.History.{past};
 ghost use Rattle.dim_rag.specs.Shown.{HasStack, shown};
 ghost use Rattle.dim_rag.specs.Tables.{Replay};
-ghost use Rattle.dim_signature.specs.Catalogue.{number_of};
+ghost use Rattle.dim_signature.specs.Catalogue.{signature_number};
 ghost use Rattle.dim_cover.specs.Shelf.{IsShelf};
 ghost use Rattle.dim_gate.specs.FeedId.{FeedId};
 ghost use Rattle.dim_gate.specs.Gate.{constants, gate_at};
@@ -129,7 +129,7 @@ impl Knowledge {
             births.now ≡ None }
         ensures { result
             ≡ is_some
-            (number_of
+            (signature_number
             (known_sigs (take self.now.loaded self.now.catalogue.sigs) self.now.depth
             (past graph.now.entries)) (stacks_of births.now (past graph.now.entries))) }
     {

@@ -5,8 +5,8 @@ ghost use Rattle.dim_rag.specs.Made.{entry_by};
 ghost use Rattle.dim_rag.specs.Shown.{HasStack, shown};
 ghost use Rattle.dim_rag.specs.declared.command.Command.TheVariants.{Acquire, Release};
 ghost use Rattle.dim_rag.specs.declared.entry.Entry.TheVariants.{Got, Free};
-ghost use Rattle.dim_signature.specs.Catalogue.{number_of};
-ghost use Rattle.dim_gate.specs.Gate.{constants, replay, grown};
+ghost use Rattle.dim_signature.specs.Catalogue.{signature_number};
+ghost use Rattle.dim_gate.specs.Gate.{constants, replay, gate_after};
 ghost use Rattle.dim_gate.specs.Known.{known_sigs, stacks_of};
 ghost use Rattle.dim_gate.specs.Starved.{learn_fault};
 ghost use Rattle.dim_gate.specs.Answer.{reply_of, entry_of, MayGive};
@@ -102,7 +102,7 @@ impl LeanGate {
             ≡ None }
         ensures { result
             ≡ is_some
-            (number_of (known_sigs self.now.loaded self.now.depth (past self.now.entries))
+            (signature_number (known_sigs self.now.loaded self.now.depth (past self.now.entries))
             (stacks_of births.now (past self.now.entries))) }
     {
         self.knowledge.knows(&self.graph, births)
@@ -121,7 +121,7 @@ impl LeanGate {
         ensures told { entry_by record { 0 = caller } cmd.now result
             ≡ entry_of (constants self.old) caller cmd.now (past self.old.entries) }
         ensures entry { self.new
-            ≡ grown self.old
+            ≡ gate_after self.old
             (entry_of (constants self.old) caller cmd.now (past self.old.entries)) }
     {
         let reply = self.knowledge.decide(&self.graph, caller, cmd);
@@ -142,7 +142,7 @@ impl LeanGate {
             ↔ (entry_of (constants self.old) t.0 (Acquire l) (past self.old.entries)
             ≡ Some (Got t l)) }
         ensures entry { self.new
-            ≡ grown self.old (entry_of (constants self.old) t.0 (Acquire l) (past self.old.entries)) }
+            ≡ gate_after self.old (entry_of (constants self.old) t.0 (Acquire l) (past self.old.entries)) }
     {
         if !is_got(&acquire(&self.graph, t, l)) {
             return false;
@@ -161,7 +161,7 @@ impl LeanGate {
             ↔ (entry_of (constants self.old) t.0 (Release l) (past self.old.entries)
             ≡ Some (Free t l)) }
         ensures entry { self.new
-            ≡ grown self.old (entry_of (constants self.old) t.0 (Release l) (past self.old.entries)) }
+            ≡ gate_after self.old (entry_of (constants self.old) t.0 (Release l) (past self.old.entries)) }
     {
         if !is_freed(&release(&self.graph, t, l)) {
             return false;
@@ -176,7 +176,7 @@ impl LeanGate {
         requires room { 1 ≤ self.old.spare }
         requires stack { HasStack e.now }
         requires legal { IsLegalAfter (constants self.old) (past self.old.entries) (shown e.now) }
-        ensures { self.new ≡ grown self.old (Some (shown e.now)) }
+        ensures { self.new ≡ gate_after self.old (Some (shown e.now)) }
     {
         let _few = self.graph.len(); // for the contract: the entries fit, and there are few
         self.knowledge.take_in(&self.graph, e);

@@ -11,7 +11,7 @@ use Rattle.std.proofs.lemmas.Option.{get_or_from_slice_get, slice_get_within}
 use Rattle.dim_stack.specs.declared.Frame.{Frame}
 use Rattle.dim_stack.specs.Names.{AreAscending, IsNamedBy}
 use Rattle.dim_signature.specs.Sig.{Sig}
-use Rattle.dim_signature.specs.Catalogue.{IsCatalogue, has_stacks, number_of}
+use Rattle.dim_signature.specs.Catalogue.{IsCatalogue, has_stacks, signature_number}
 use Rattle.dim_signature.specs.Refusal.{refusal_of}
 use Rattle.dim_signature.specs.Order.{no_sig}
 use Rattle.dim_signature.proofs.Exports.{own}
@@ -32,14 +32,14 @@ none_before p xs i e low =
     let before : k < i = omega (arith, h, length-take-le i xs low) in
     ap p (get_or-take i xs k d before) ∙ fails_before_first p xs k d (omega (arith, before, first_is p xs i e)))
 
-nowhere : (sigs : List Sig) (stacks : List (List Frame)) → list_any (has_stacks stacks) sigs ≡ false → number_of sigs stacks ≡ None
-nowhere sigs stacks e = go (number_of sigs stacks) refl
+nowhere : (sigs : List Sig) (stacks : List (List Frame)) → list_any (has_stacks stacks) sigs ≡ false → signature_number sigs stacks ≡ None
+nowhere sigs stacks e = go (signature_number sigs stacks) refl
   where
-    go : (o : Option ℕ) → number_of sigs stacks ≡ o → o ≡ None
+    go : (o : Option ℕ) → signature_number sigs stacks ≡ o → o ≡ None
     go None f = refl
     go (Some j) f = (let t = any_at (has_stacks stacks) sigs j no_sig f in absurd (false≢true (sym e ∙ t)))
 
-none_refused : (sigs : List Sig) (stacks : List (List Frame)) → number_of sigs stacks ≡ None → length sigs < 4096 → refusal_of sigs stacks ≡ None
+none_refused : (sigs : List Sig) (stacks : List (List Frame)) → signature_number sigs stacks ≡ None → length sigs < 4096 → refusal_of sigs stacks ≡ None
 none_refused sigs stacks e few = rw (e, lt-ltb (length sigs) 4096 few) refl
 
 pub is_new : (from to : List (List ℕ)) → AreAscending from → AreAscending to → (sigs so_far : List Sig) (s t : Sig) (i : ℕ)

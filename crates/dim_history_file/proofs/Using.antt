@@ -22,7 +22,7 @@ use Rattle.dim_text.specs.Naming.{is_name, IsName, name_of as name_of_word}
 use Rattle.dim_text.specs.Numerals.{number_of as number_in}
 use Rattle.dim_text.specs.Words.{has_sides}
 use Rattle.dim_text.proofs.Exports.{lines_of-ended, words_of-line_of, sides_of-frame_word, HasNo-decimal, HasNo-name, chosen}
-use Rattle.dim_stack.specs.Names.{HasNamesOf, table_of, number_of, name_of, HasNames}
+use Rattle.dim_stack.specs.Names.{HasNamesOf, table_of, name_number, name_of, HasNames}
 use Rattle.dim_stack.specs.declared.Frame.{Frame}
 use Rattle.dim_stack.proofs.Exports.{has-append, has_contains, contains_has, has_own, table-same, missing, found}
 use Rattle.dim_history_file.specs.declared.opening.Opening.{Opening}
@@ -52,7 +52,7 @@ pub has_all : (names : List (List ℕ)) → HasNames (table_of names) names
 has_all = has_own
 
 -- a name that stands in the table has a number
-pub numbered : (table : List (List ℕ)) (name : List ℕ) → has name table ≡ true → number_of table name ≡ None → ⊥
+pub numbered : (table : List (List ℕ)) (name : List ℕ) → has name table ≡ true → name_number table name ≡ None → ⊥
 numbered table name e none =
     let absent : has name table ≡ false = list_any_none (bytes_eq name) table (λ k d h.
     false_from_ne_true (bytes_eq name (get_or table k d)) (λ t. missing table name none k d h (sym ((bytes_eq-Decides name (get_or table k d)).0 t)))) in
@@ -229,33 +229,33 @@ has_itself q names = or_left (bytes_eq q q) (has q names) ((bytes_eq-Decides q q
 pub has_place : (names : List (List ℕ)) (n : ℕ) (name : List ℕ) → slice_get names n ≡ Some name → has name names ≡ true
 has_place names n name e = any_passes_from_place (bytes_eq name) names n name e ((bytes_eq-Decides name name).1 refl)
 
-pub some_number : (table : List (List ℕ)) (name : List ℕ) (r : Option ℕ) → r ≡ number_of table name → has name table ≡ true → IsSome r
+pub some_number : (table : List (List ℕ)) (name : List ℕ) (r : Option ℕ) → r ≡ name_number table name → has name table ≡ true → IsSome r
 some_number table name None e h = absurd (numbered table name h (sym e))
 some_number table name (Some n) e h = search rules
 
-pub found_name : (table : List (List ℕ)) (name : List ℕ) (n : ℕ) → number_of table name ≡ Some n → name_of table n ≡ name
+pub found_name : (table : List (List ℕ)) (name : List ℕ) (n : ℕ) → name_number table name ≡ Some n → name_of table n ≡ name
 found_name table name n e = get_or_from_slice_get table n name [] (found table name n e)
 
-pub found_within : (table : List (List ℕ)) (name : List ℕ) (n : ℕ) → number_of table name ≡ Some n → n < length table
+pub found_within : (table : List (List ℕ)) (name : List ℕ) (n : ℕ) → name_number table name ≡ Some n → n < length table
 found_within table name n e = slice_get_within table n name (found table name n e)
 
-pub renamed : (to from : List (List ℕ)) (f : Frame) (n : ℕ) (name : List ℕ) → number_of to name ≡ Some n → slice_get from f.func ≡ Some name
+pub renamed : (to from : List (List ℕ)) (f : Frame) (n : ℕ) (name : List ℕ) → name_number to name ≡ Some n → slice_get from f.func ≡ Some name
     → named_frame to (record { func = n; at = f.at }) ≡ named_frame from f
 renamed to from f n name e is =
     ap (λ x. let g : NamedFrame = record { name = x; at = f.at } in g) (found_name to name n e ∙ sym (get_or_from_slice_get from f.func name [] is))
 
 -- the numbers of a table's names in another
 pub numbers_length : (to from : List (List ℕ)) (numbers : List ℕ) → AreNumbersIn to from numbers → length numbers ≡ length from
-numbers_length to from numbers h = sym (length-map numbers (λ n. Some n)) ∙ ap length h ∙ length-map from (number_of to)
+numbers_length to from numbers h = sym (length-map numbers (λ n. Some n)) ∙ ap length h ∙ length-map from (name_number to)
 
-number_read : (to from : List (List ℕ)) (numbers : List ℕ) → AreNumbersIn to from numbers → (n m : ℕ) → n < length from → slice_get numbers n ≡ Some m → number_of to (name_of from n) ≡ Some m
+number_read : (to from : List (List ℕ)) (numbers : List ℕ) → AreNumbersIn to from numbers → (n m : ℕ) → n < length from → slice_get numbers n ≡ Some m → name_number to (name_of from n) ≡ Some m
 number_read to from numbers h n m within is =
-    let e : Some (Some m) ≡ Some (number_of to (name_of from n)) =
+    let e : Some (Some m) ≡ Some (name_number to (name_of from n)) =
     ap (option_map (λ k. Some k)) (sym is)
     ∙ sym (slice_get-map (λ k. Some k) numbers n)
     ∙ ap (λ ks. slice_get ks n) h
-    ∙ slice_get-map (number_of to) from n
-    ∙ ap (option_map (number_of to)) (slice_get-get_or from n [] within) in
+    ∙ slice_get-map (name_number to) from n
+    ∙ ap (option_map (name_number to)) (slice_get-get_or from n [] within) in
     cc
 
 pub frame_renamed : (to from : List (List ℕ)) (numbers : List ℕ) → AreNumbersIn to from numbers → (f : Frame) (n : ℕ) → f.func < length from → slice_get numbers f.func ≡ Some n
@@ -274,7 +274,7 @@ name_there word function offset e is =
     ap (λ sides. has function (name_in sides)) e ∙ ap (λ ns. has function ns) (cond-true (is_name function) (function ∷ []) [] is) ∙ has_itself function []
 
 -- the name whose number was asked for
-pub number_named : (table : List (List ℕ)) → All IsName table → (name : List ℕ) (n : ℕ) → number_of table name ≡ Some n → IsName name
+pub number_named : (table : List (List ℕ)) → All IsName table → (name : List ℕ) (n : ℕ) → name_number table name ≡ Some n → IsName name
 number_named table h name n e =
     let at = found table name n e in
     subst IsName (get_or_from_slice_get table n name [] at) (h n [] (slice_get_within table n name at))
@@ -283,7 +283,7 @@ named_itself : (name : List ℕ) → IsName name → name_of_word name ≡ Some 
 unfolding name_of_word
 named_itself name is = cond-true (is_name name) (Some name) None is
 
-no_name : (table : List (List ℕ)) (word function offset : List ℕ) → HasNames table (names_in_word word) → sides_of word ≡ Some (function, offset) → number_of table function ≡ None → name_of_word function ≡ None
+no_name : (table : List (List ℕ)) (word function offset : List ℕ) → HasNames table (names_in_word word) → sides_of word ≡ Some (function, offset) → name_number table function ≡ None → name_of_word function ≡ None
 unfolding name_of_word
 no_name table word function offset known e none =
     elim (cases_Bool (is_name function)) [
@@ -291,7 +291,7 @@ no_name table word function offset known e none =
       | inr other ↦ cond-false (is_name function) (Some function) None other
     ]
 
-pub frame_no_name : (table : List (List ℕ)) (word function offset : List ℕ) → HasNames table (names_in_word word) → sides_of word ≡ Some (function, offset) → number_of table function ≡ None → frame_of word ≡ Err Name
+pub frame_no_name : (table : List (List ℕ)) (word function offset : List ℕ) → HasNames table (names_in_word word) → sides_of word ≡ Some (function, offset) → name_number table function ≡ None → frame_of word ≡ Err Name
 unfolding frame_of
 frame_no_name table word function offset known e none = rw (e, no_name table word function offset known e none) refl
 
@@ -299,7 +299,7 @@ pub frame_no_number : (word function offset : List ℕ) → sides_of word ≡ So
 unfolding frame_of
 frame_no_number word function offset e is none = rw (e, named_itself function is, none) refl
 
-pub frame_value : (table : List (List ℕ)) (word function offset : List ℕ) (at n : ℕ) → sides_of word ≡ Some (function, offset) → IsName function → number_in 65535 offset ≡ Some at → number_of table function ≡ Some n
+pub frame_value : (table : List (List ℕ)) (word function offset : List ℕ) (at n : ℕ) → sides_of word ≡ Some (function, offset) → IsName function → number_in 65535 offset ≡ Some at → name_number table function ≡ Some n
     → frame_of word ≡ Ok (named_frame table (record { func = n; at = at }))
 frame_value table word function offset at n e is g h =
     frame_read word function offset function at e (named_itself function is) g

@@ -7,7 +7,7 @@ use Rattle.std.specs.declared.cmp.Ordering.{Ordering}
 use Rattle.std.specs.Cmp.Lexicographic.{slice_cmp, pointwise}
 use Rattle.std.specs.Str.{bytes_eq}
 use Rattle.dim_stack.specs.declared.Frame.{Frame}
-use Rattle.dim_stack.specs.Names.{name_cmp, name_of, number_of, IsNamedBy}
+use Rattle.dim_stack.specs.Names.{name_cmp, name_of, name_number, IsNamedBy}
 use Rattle.dim_signature.specs.Sig.{Sig}
 
 pub record NamedFrame : Type 0 where
@@ -35,11 +35,11 @@ named names sigs = map (named_sig names) sigs
 
 -- for each name of a table, its number in another
 abbrev pub AreNumbersIn : List (List ℕ) → List (List ℕ) → List ℕ → Type 0
-AreNumbersIn to from numbers = map (λ n. Some n) numbers ≡ map (number_of to) from
+AreNumbersIn to from numbers = map (λ n. Some n) numbers ≡ map (name_number to) from
 
 -- names read as their numbers in a table
 abbrev pub numbered_frame : List (List ℕ) → NamedFrame → Frame
-numbered_frame names f = record { func = unwrap_or (number_of names f.name) 0; at = f.at }
+numbered_frame names f = record { func = unwrap_or (name_number names f.name) 0; at = f.at }
 
 abbrev pub numbered_stack : List (List ℕ) → List NamedFrame → List Frame
 numbered_stack names stack = map (numbered_frame names) stack

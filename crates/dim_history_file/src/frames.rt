@@ -5,7 +5,7 @@ ghost use Rattle.dim_text.specs.Reading.{Gives};
 ghost use Rattle.dim_text.specs.Cuts.{words_of};
 ghost use Rattle.dim_text.specs.Naming.{IsName};
 ghost use Rattle.dim_text.specs.Words.{has_sides};
-ghost use Rattle.dim_stack.specs.Names.{IsNamedBy, HasNames, number_of};
+ghost use Rattle.dim_stack.specs.Names.{IsNamedBy, HasNames, name_number};
 ghost use Rattle.dim_history_file.specs.Value.{named_frame, named_stack};
 ghost use Rattle.dim_history_file.specs.Judging.{frame_of, frames_of, stack_of};
 ghost use Rattle.dim_history_file.specs.Naming.{names_in_word, names_in_words, names_in_line};
@@ -59,7 +59,7 @@ fn frame(names: &Names, recent: &mut Recent, word: &[u8]) -> Result<Frame, FileK
 
 // The number of a name.
 fn found(names: &Names, recent: &mut Recent, name: &[u8]) -> Option<u32>
-    ensures number { result ≡ number_of names.now name.now }
+    ensures number { result ≡ name_number names.now name.now }
     ensures name { IfSome result (λ _. IsName name.now) }
 {
     let _table = names.len();

@@ -1,6 +1,6 @@
 //! Where names were found last.
 ghost use Rattle.std.specs.Prelude.{◌≡◌};
-ghost use Rattle.dim_stack.specs.Names.{number_of};
+ghost use Rattle.dim_stack.specs.Names.{name_number};
 
 use dim_stack::Names;
 
@@ -20,18 +20,18 @@ impl Recent {
 
     /// Where a name may stand.
     pub fn guess(&self, name: &[u8]) -> u32 {
-        self.places[usize::from(entry_of(name))]
+        self.places[usize::from(slot_of(name))]
     }
 
     /// Notes where a name stands.
     pub fn note(&mut self, name: &[u8], place: u32) {
-        self.places[usize::from(entry_of(name))] = place;
+        self.places[usize::from(slot_of(name))] = place;
     }
 
     /// The number of a name in a table, and None where it is not there. It is noted where it was
     /// not guessed.
     pub fn find(&mut self, names: &Names, name: &[u8]) -> Option<u32>
-        ensures { result ≡ number_of names.now name.now }
+        ensures { result ≡ name_number names.now name.now }
     {
         let guess = self.guess(name);
         let number = names.find_with_guess(name, guess)?;
@@ -43,7 +43,7 @@ impl Recent {
 }
 
 // The entry of a name, for which each of its bytes counts.
-fn entry_of(name: &[u8]) -> u8 {
+fn slot_of(name: &[u8]) -> u8 {
     let mut entry = 0u8;
     for byte in name {
         entry = entry.wrapping_mul(37).wrapping_add(*byte);

@@ -9,7 +9,7 @@ use Rattle.std.proofs.lemmas.List.Sums.{fails_before_first}
 use Rattle.std.proofs.lemmas.Option.{get_or_from_slice_get, slice_get_within}
 use Rattle.dim_stack.specs.declared.Frame.{Frame}
 use Rattle.dim_signature.specs.Sig.{Sig, counted, fresh}
-use Rattle.dim_signature.specs.Catalogue.{IsCatalogue, changed_at, has_stacks, number_of}
+use Rattle.dim_signature.specs.Catalogue.{IsCatalogue, changed_at, has_stacks, signature_number}
 use Rattle.dim_signature.proofs.Exports.{own}
 use Rattle.dim_history_file.proofs.Comparing.{any_at, any_none}
 use Rattle.dim_merge.specs.Numbered.{unknown_to, with_yields, yields_of, yields_for}
@@ -29,17 +29,17 @@ find_none p (x ∷ xs) h =
     cond-false (p x) (Some x) (find p xs) q.0 ∙ find_none p xs q.1
 
 -- what is counted for some stacks, by the number of their signature
-pub yields_found : (sigs : List Sig) (stacks : List (List Frame)) (n : ℕ) (s : Sig) → number_of sigs stacks ≡ Some n → slice_get sigs n ≡ Some s → s.yields ≡ yields_for sigs stacks
+pub yields_found : (sigs : List Sig) (stacks : List (List Frame)) (n : ℕ) (s : Sig) → signature_number sigs stacks ≡ Some n → slice_get sigs n ≡ Some s → s.yields ≡ yields_for sigs stacks
 yields_found sigs stacks n s e at =
     sym (ap yields_of (find_at (has_stacks stacks) sigs ∙ ap (slice_get sigs) (first_is (has_stacks stacks) sigs n e) ∙ at))
 
-pub yields_missing : (sigs : List Sig) (stacks : List (List Frame)) → number_of sigs stacks ≡ None → 0 ≡ yields_for sigs stacks
+pub yields_missing : (sigs : List Sig) (stacks : List (List Frame)) → signature_number sigs stacks ≡ None → 0 ≡ yields_for sigs stacks
 yields_missing sigs stacks e = sym (ap yields_of (find_none (has_stacks stacks) sigs (any_none (has_stacks stacks) sigs e)))
 
-pub nowhere : (sigs : List Sig) (stacks : List (List Frame)) → list_any (has_stacks stacks) sigs ≡ false → number_of sigs stacks ≡ None
-nowhere sigs stacks e = go (number_of sigs stacks) refl
+pub nowhere : (sigs : List Sig) (stacks : List (List Frame)) → list_any (has_stacks stacks) sigs ≡ false → signature_number sigs stacks ≡ None
+nowhere sigs stacks e = go (signature_number sigs stacks) refl
   where
-    go : (o : Option ℕ) → number_of sigs stacks ≡ o → o ≡ None
+    go : (o : Option ℕ) → signature_number sigs stacks ≡ o → o ≡ None
     go None f = refl
     go (Some j) f = (let t = any_at (has_stacks stacks) sigs j (fresh 0 []) f in absurd (false≢true (sym e ∙ t)))
 
@@ -53,7 +53,7 @@ any_filter p q (x ∷ xs) h =
     let parts = or_parts (p x) (list_any p xs) h in
     any_one_more p x (filter q xs) (q x) parts.0 (any_filter p q xs parts.1)
 
-pub none_kept : (q : Sig → Bool) (sigs : List Sig) (stacks : List (List Frame)) → list_any (has_stacks stacks) sigs ≡ false → number_of (filter q sigs) stacks ≡ None
+pub none_kept : (q : Sig → Bool) (sigs : List Sig) (stacks : List (List Frame)) → list_any (has_stacks stacks) sigs ≡ false → signature_number (filter q sigs) stacks ≡ None
 none_kept q sigs stacks e = nowhere (filter q sigs) stacks (any_filter (has_stacks stacks) q sigs e)
 
 none_before : {X : Type 0} (p : X → Bool) (xs : List X) (i : ℕ) → position p xs ≡ Some i → i ≤ length xs → list_any p (take i xs) ≡ false
@@ -63,15 +63,15 @@ none_before p xs i e low =
     ap p (get_or-take i xs k d before) ∙ fails_before_first p xs k d (omega (arith, before, first_is p xs i e)))
 
 -- the stacks of a signature are new behind those before it, of which some are kept
-pub new_kept : (q : Sig → Bool) (sigs : List Sig) (i : ℕ) (s : Sig) → IsCatalogue sigs → slice_get sigs i ≡ Some s → number_of (filter q (take i sigs)) s.stacks ≡ None
+pub new_kept : (q : Sig → Bool) (sigs : List Sig) (i : ℕ) (s : Sig) → IsCatalogue sigs → slice_get sigs i ≡ Some s → signature_number (filter q (take i sigs)) s.stacks ≡ None
 new_kept q sigs i s catalogue at =
     none_kept q (take i sigs) s.stacks (none_before (has_stacks s.stacks) sigs i (own sigs catalogue i s at) (omega (arith, slice_get_within sigs i s at)))
 
 -- one signature, as it is known or new
-pub known_one : (known : List Sig) (s : Sig) (n : ℕ) → number_of known s.stacks ≡ Some n → unknown_to known (s ∷ []) ≡ []
+pub known_one : (known : List Sig) (s : Sig) (n : ℕ) → signature_number known s.stacks ≡ Some n → unknown_to known (s ∷ []) ≡ []
 known_one known s n e = ap (λ b. cond (not b) (s ∷ []) []) (any_at (has_stacks s.stacks) known n (fresh 0 []) e)
 
-pub new_one : (known : List Sig) (s : Sig) → number_of known s.stacks ≡ None → unknown_to known (s ∷ []) ≡ s ∷ []
+pub new_one : (known : List Sig) (s : Sig) → signature_number known s.stacks ≡ None → unknown_to known (s ∷ []) ≡ s ∷ []
 new_one known s e = ap (λ b. cond (not b) (s ∷ []) []) (any_none (has_stacks s.stacks) known e)
 
 pub few_kept : {X : Type 0} (q : X → Bool) (xs : List X) → length (filter q xs) ≤ length xs

@@ -9,7 +9,7 @@ use Rattle.std.proofs.lemmas.List.Folds.{list_any_at}
 use Rattle.std.proofs.lemmas.List.Kept.{AllPairs-filter}
 use Rattle.std.proofs.lemmas.Option.{get_or_from_slice_get, slice_get_within}
 use Rattle.dim_signature.specs.Sig.{Sig}
-use Rattle.dim_signature.specs.Catalogue.{has_stacks, number_of}
+use Rattle.dim_signature.specs.Catalogue.{has_stacks, signature_number}
 use Rattle.dim_signature.proofs.Exports.{found, has_stacks-Decides}
 use Rattle.dim_merge.specs.Numbered.{AreDifferent, with_yields, is_unknown_to, unknown_to}
 
@@ -52,10 +52,10 @@ parts_differ first second p q =
     (AllPairs-filter (λ (s t : Sig). s.stacks ≢ t.stacks) (is_unknown_to first) second q) (apart second first second)
 
 -- where no two have the same stacks, the first of the others is new
-pub is_new : (sigs : List Sig) (s : Sig) (ss : List Sig) → AreDifferent (sigs ++ s ∷ ss) → number_of sigs s.stacks ≡ None
-is_new sigs s ss a = go (number_of sigs s.stacks) refl
+pub is_new : (sigs : List Sig) (s : Sig) (ss : List Sig) → AreDifferent (sigs ++ s ∷ ss) → signature_number sigs s.stacks ≡ None
+is_new sigs s ss a = go (signature_number sigs s.stacks) refl
   where
-    go : (o : Option ℕ) → number_of sigs s.stacks ≡ o → number_of sigs s.stacks ≡ None
+    go : (o : Option ℕ) → signature_number sigs s.stacks ≡ o → signature_number sigs s.stacks ≡ None
     go None q = q
     go (Some n) q =
         let f = found sigs s.stacks n q in
@@ -67,7 +67,7 @@ is_new sigs s ss a = go (number_of sigs s.stacks) refl
         absurd (a n (length sigs) s low (omega (arith, all)) (ap (λ (x : Sig). x.stacks) one ∙ f.2 ∙ sym (ap (λ (x : Sig). x.stacks) two)))
 
 -- the next of the others is new behind the signatures and those of the others before it
-pub next_new : (old others : List Sig) (i : ℕ) (s : Sig) → slice_get others i ≡ Some s → AreDifferent (old ++ others) → number_of (old ++ take i others) s.stacks ≡ None
+pub next_new : (old others : List Sig) (i : ℕ) (s : Sig) → slice_get others i ≡ Some s → AreDifferent (old ++ others) → signature_number (old ++ take i others) s.stacks ≡ None
 next_new old others i s at a =
     let behind = drop (i + 1) others in
     let low : i < length others = slice_get_within others i s at in

@@ -1,7 +1,7 @@
 //! What a merged history is made of: what the first knows, and what the second adds.
 ghost use Rattle.std.specs.Prelude.{◌≡◌, ◌+◌, ◌++◌, ◌∷◌, [], ◌<◌, ◌≤◌, ◌^◌, IfOk, OnOk, None, length, map};
 ghost use Rattle.dim_stack.specs.Names.{HasNames, table_of};
-ghost use Rattle.dim_signature.specs.Catalogue.{number_of};
+ghost use Rattle.dim_signature.specs.Catalogue.{signature_number};
 ghost use Rattle.dim_history_file.specs.Seen.{value_of};
 ghost use Rattle.dim_merge.specs.Merging.{merged};
 ghost use Rattle.dim_merge.specs.Numbered.{AreDifferent, unknown_to, with_yields, yields_for};
@@ -52,7 +52,7 @@ fn add_yields(catalogue: &mut Catalogue, others: &Catalogue)
 // Adds a signature to fewer than 4,096 others, none of which has its stacks.
 fn add(alloc: Global, catalogue: &mut Catalogue, sig: &Signature) -> Result<(), OutOfMemory>
     requires few { length catalogue.old.sigs < 4096 }
-    requires new { number_of catalogue.old.sigs sig.now.stacks ≡ None }
+    requires new { signature_number catalogue.old.sigs sig.now.stacks ≡ None }
     ensures { OnOk result (catalogue.new.sigs ≡ catalogue.old.sigs ++ sig.now ∷ []) }
 {
     match catalogue.add(sig.copy(alloc)?) {
@@ -70,7 +70,7 @@ fn add_unknown(
     sig: &Signature,
 ) -> Result<(), OutOfMemory>
     requires few { length unknown.old.sigs < 4096 }
-    requires new { number_of unknown.old.sigs sig.now.stacks ≡ None }
+    requires new { signature_number unknown.old.sigs sig.now.stacks ≡ None }
     ensures { OnOk result
         (unknown.new.sigs ≡ unknown.old.sigs ++ unknown_to known.now.sigs (sig.now ∷ [])) }
 {

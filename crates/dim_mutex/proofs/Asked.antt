@@ -40,7 +40,7 @@ use Rattle.dim_run.proofs.Exports.{awake_on, caller_on, led_legal, none_between}
 use Rattle.dim_mutex.specs.declared.holdings.Holdings.{Holdings}
 use Rattle.dim_mutex.specs.Standing.{is_running, is_allowed, mode_of, wanted, wanted_at, wanted_in, holds, holds_at, owed, owed_at, all_locks, stack_wished, HoldsSame, HasTaken, HasFreed}
 use Rattle.dim_mutex.specs.Views.{IsSound}
-use Rattle.dim_mutex.specs.Holdings.{AreHoldings, IsKept, kept_for, wanted_by}
+use Rattle.dim_mutex.specs.Holdings.{AreHoldings, KeepsHoldings, kept_for, wanted_by}
 use Rattle.dim_mutex.specs.Calls.{HasRoom}
 use Rattle.dim_mutex.specs.Steps.{MayRequest, runs, woken, IsWokenOn, Requested, Requests, Acquired, Acquires, Stands, Released}
 use Rattle.dim_mutex.proofs.Between.{NoWords, no_words, mode_on, count_on, wish_on}
@@ -53,7 +53,7 @@ pub none_counted : (n : ℕ) → nat_lt 0 n ≡ false → n ≡ 0
 none_counted n q = (let z = ltb-false 0 n q in omega (arith, z))
 
 -- a call of a sound gate, by a caller that keeps its holdings
-module _ (o : Opening) (sound : IsSound o) (k : Known) (b : Holdings) (kept : IsKept k b) (caller : IsCaller o k) (cmd : Command) (r : Reply) (k' : Known) (a : IsAsked o k k' cmd r) where
+module _ (o : Opening) (sound : IsSound o) (k : Known) (b : Holdings) (kept : KeepsHoldings k b) (caller : IsCaller o k) (cmd : Command) (r : Reply) (k' : Known) (a : IsAsked o k k' cmd r) where
   abbrev c : Constants
   c = o.constants
 
@@ -178,25 +178,25 @@ module _ (o : Opening) (sound : IsSound o) (k : Known) (b : Holdings) (kept : Is
     left = refl;
   }
 
-  kept_without : IsKept without b
+  kept_without : KeepsHoldings without b
   kept_without = record { are = are; room = kept.room }
 
   -- with an entry it keeps other holdings
-  kept_with : (e : Entry) (b' : Holdings) → AreHoldings k.number (e ∷ h) b' → b'.owed + kept_for b'.wants ≤ k.left - 1 → IsKept (with_entry e) b'
+  kept_with : (e : Entry) (b' : Holdings) → AreHoldings k.number (e ∷ h) b' → b'.owed + kept_for b'.wants ≤ k.left - 1 → KeepsHoldings (with_entry e) b'
   kept_with e b' are' room = record { are = subst (λ (x : List Entry). AreHoldings k.number x b') (sym (past_is e)) are'; room = room }
 
 -- the room of a caller, by what it owes
-owed_is : (k : Known) (b : Holdings) → IsKept k b → b.owed ≡ owed k
+owed_is : (k : Known) (b : Holdings) → KeepsHoldings k b → b.owed ≡ owed k
 owed_is k b kept = kept.are.owed_is
 
-waits_flag : (k : Known) (b : Holdings) (l : Lid) (s : List Frame) → IsKept k b → wanted k ≡ Some (l, s) → b.wants ≡ true
+waits_flag : (k : Known) (b : Holdings) (l : Lid) (s : List Frame) → KeepsHoldings k b → wanted k ≡ Some (l, s) → b.wants ≡ true
 waits_flag k b l s kept q = by b.wants refl
   where
     by : (w : Bool) → b.wants ≡ w → b.wants ≡ true
     by true e = e
     by false e = absurd (let z : Some (l, s) ≡ None = sym q ∙ kept.are.wanted_is ∙ ap (λ x. wanted_by x b.lock b.stack) e in cc)
 
-runs_flag : (k : Known) (b : Holdings) → IsKept k b → mode_of k ≡ Running → b.wants ≡ false
+runs_flag : (k : Known) (b : Holdings) → KeepsHoldings k b → mode_of k ≡ Running → b.wants ≡ false
 runs_flag k b kept q = by b.wants refl
   where
     by : (w : Bool) → b.wants ≡ w → b.wants ≡ false
@@ -204,11 +204,11 @@ runs_flag k b kept q = by b.wants refl
     by true e = absurd (false≢true (sym (ap not e) ∙ sym kept.are.running ∙ ap is_running q))
 
 -- one that waits may make two entries more than it owes
-pub waiting_room : (k : Known) (b : Holdings) (l : Lid) (s : List Frame) → IsKept k b → wanted k ≡ Some (l, s) → b.owed + 2 ≤ k.left
+pub waiting_room : (k : Known) (b : Holdings) (l : Lid) (s : List Frame) → KeepsHoldings k b → wanted k ≡ Some (l, s) → b.owed + 2 ≤ k.left
 waiting_room k b l s kept q = subst (λ w. b.owed + kept_for w ≤ k.left) (waits_flag k b l s kept q) kept.room
 
 -- one that runs has the flag down
-pub flag_down : (k : Known) (b : Holdings) → IsKept k b → mode_of k ≡ Running → b.wants ≡ false
+pub flag_down : (k : Known) (b : Holdings) → KeepsHoldings k b → mode_of k ≡ Running → b.wants ≡ false
 flag_down k b kept q = runs_flag k b kept q
 
 -- what a caller knows once a thread's command was answered
@@ -223,7 +223,7 @@ pub low_few : (o : Opening) → IsSound o → (l : ℕ) → l < o.constants.lock
 low_few o sound l low = (let x = sound.few_locks in omega (arith, x, low))
 
 -- a Request
-module _ (o : Opening) (sound : IsSound o) (k : Known) (b : Holdings) (kept : IsKept k b) (caller : IsCaller o k) (l : Lid) (s : List Frame) (r : Reply) (k' : Known) (a : IsAsked o k k' (Request l s) r) (free : holds l.0 k ≡ false) (may : MayRequest o l s k) (room : HasRoom 3 k) where
+module _ (o : Opening) (sound : IsSound o) (k : Known) (b : Holdings) (kept : KeepsHoldings k b) (caller : IsCaller o k) (l : Lid) (s : List Frame) (r : Reply) (k' : Known) (a : IsAsked o k k' (Request l s) r) (free : holds l.0 k ≡ false) (may : MayRequest o l s k) (room : HasRoom 3 k) where
   abbrev rt : Tid
   rt = thread_of k
 
@@ -264,10 +264,10 @@ module _ (o : Opening) (sound : IsSound o) (k : Known) (b : Holdings) (kept : Is
   enough : b.owed + 2 ≤ k.left - 1
   enough = let x = owed_is k b kept in let y = room in omega (arith, x, y)
 
-  pub requested : Requested o l s k k' r × IsKept k' asks_now
+  pub requested : Requested o l s k k' r × KeepsHoldings k' asks_now
   requested = by (cover rc rt l s rh) refl
     where
-      by : (x : Option Named) → cover rc rt l s rh ≡ x → Requested o l s k k' r × IsKept k' asks_now
+      by : (x : Option Named) → cover rc rt l s rh ≡ x → Requested o l s k k' r × KeepsHoldings k' asks_now
       by None q =
           let e : Entry = entry.Go rt l s in
           let is : answer rc k.number (Request l s) rh ≡ with reply.Go e = answer_is ∙ ap (yield_or_go rt l s) q in
@@ -281,7 +281,7 @@ module _ (o : Opening) (sound : IsSound o) (k : Known) (b : Holdings) (kept : Is
               left = (let y = room in omega (arith, y));
               entered = subst (Requests rt l s k (told k a.found (Some e))) (sym rep) (refl, ap (λ (x : List Entry). is_allowed (mode k.number x)) seen ∙ go_allowed rt l s rh);
             },
-            subst (λ (x : Known). IsKept x asks_now) (sym now) (kept_with o sound k b kept caller (Request l s) r k' a e asks_now (after_go rt l s rh b (are o sound k b kept caller (Request l s) r k' a)) enough),
+            subst (λ (x : Known). KeepsHoldings x asks_now) (sym now) (kept_with o sound k b kept caller (Request l s) r k' a e asks_now (after_go rt l s rh b (are o sound k b kept caller (Request l s) r k' a)) enough),
           )
       by (Some n) q =
           let e : Entry = entry.Yield rt l s n.sig n.births in
@@ -296,11 +296,11 @@ module _ (o : Opening) (sound : IsSound o) (k : Known) (b : Holdings) (kept : Is
               left = (let y = room in omega (arith, y));
               entered = subst (Requests rt l s k (told k a.found (Some e))) (sym rep) refl;
             },
-            subst (λ (x : Known). IsKept x asks_now) (sym now) (kept_with o sound k b kept caller (Request l s) r k' a e asks_now (after_yield rt l s n.sig n.births rh b (are o sound k b kept caller (Request l s) r k' a)) enough),
+            subst (λ (x : Known). KeepsHoldings x asks_now) (sym now) (kept_with o sound k b kept caller (Request l s) r k' a e asks_now (after_yield rt l s n.sig n.births rh b (are o sound k b kept caller (Request l s) r k' a)) enough),
           )
 
 -- an Acquire
-module _ (o : Opening) (sound : IsSound o) (k : Known) (b : Holdings) (kept : IsKept k b) (caller : IsCaller o k) (l : Lid) (r : Reply) (k' : Known) (a : IsAsked o k k' (Acquire l) r) (few : l.0 < 256) (free : holds l.0 k ≡ false) (s : List Frame) (wants : wanted k ≡ Some (l, s)) where
+module _ (o : Opening) (sound : IsSound o) (k : Known) (b : Holdings) (kept : KeepsHoldings k b) (caller : IsCaller o k) (l : Lid) (r : Reply) (k' : Known) (a : IsAsked o k k' (Acquire l) r) (few : l.0 < 256) (free : holds l.0 k ≡ false) (s : List Frame) (wants : wanted k ≡ Some (l, s)) where
   abbrev at : Tid
   at = thread_of k
 
@@ -321,14 +321,14 @@ module _ (o : Opening) (sound : IsSound o) (k : Known) (b : Holdings) (kept : Is
 
   -- it keeps its holdings, or has one more where it got the lock
   abbrev KeptBy : Reply → Known → Type 0
-  KeptBy x y = ((x ≡ reply.Got) × IsKept y got_now) ⊎ ((x ≡ reply.Got → ⊥) × IsKept y b)
+  KeptBy x y = ((x ≡ reply.Got) × KeepsHoldings y got_now) ⊎ ((x ≡ reply.Got → ⊥) × KeepsHoldings y b)
 
   without_entry : (x : Reply) → answer ac k.number (Acquire l) ah ≡ only x → Acquires o l k (told k a.found None) x → (x ≡ reply.Got → ⊥) → Acquired o l k k' r × KeptBy r k'
   without_entry x is leaves not_got =
       let now : k' ≡ told k a.found None = told_without o sound k b kept caller (Acquire l) r k' a (ap (λ (y : Answer). y.entry) is) in
       let rep : r ≡ x = replied o sound k b kept caller (Acquire l) r k' a (only x) is in (
         record { asked = a; leaves = subst (λ (y : Known). Acquires o l k y r) (sym now) (subst (Acquires o l k (told k a.found None)) (sym rep) leaves) },
-        inr (λ q. not_got (sym rep ∙ q), subst (λ (y : Known). IsKept y b) (sym now) (kept_without o sound k b kept caller (Acquire l) r k' a)),
+        inr (λ q. not_got (sym rep ∙ q), subst (λ (y : Known). KeepsHoldings y b) (sym now) (kept_without o sound k b kept caller (Acquire l) r k' a)),
       )
 
   pub acquired : Acquired o l k k' r × KeptBy r k'
@@ -350,7 +350,7 @@ module _ (o : Opening) (sound : IsSound o) (k : Known) (b : Holdings) (kept : Is
             },
             inl (
               rep,
-              subst (λ (y : Known). IsKept y got_now) (sym now) (kept_with o sound k b kept caller (Acquire l) r k' a e got_now
+              subst (λ (y : Known). KeepsHoldings y got_now) (sym now) (kept_with o sound k b kept caller (Acquire l) r k' a e got_now
                   (after_taking k.number l.0 ah (e ∷ ah) b few none ch run (are o sound k b kept caller (Acquire l) r k' a))
                   (let y = waiting_room k b l s kept wants in omega (arith, y))),
             ),
@@ -369,10 +369,10 @@ abbrev taken_now : Holdings → Lid → Holdings
 taken_now b l = record b { held = set b.held l.0 true; owed = b.owed + 1 }
 
 abbrev Misses : Known → Holdings → Lid → List Frame → MissWhy → Known → Type 0
-Misses k b l s w y = (HoldsSame k y × (mode_of y ≡ Running)) × ((y.mine ≡ k.mine ++ entry.Miss (thread_of k) l s w ∷ []) × IsKept y b)
+Misses k b l s w y = (HoldsSame k y × (mode_of y ≡ Running)) × ((y.mine ≡ k.mine ++ entry.Miss (thread_of k) l s w ∷ []) × KeepsHoldings y b)
 
 abbrev pub TriedBy : Known → Holdings → Lid → List Frame → Known → Reply → Type 0
-TriedBy k b l s y reply.Took = HasTaken l.0 k y × ((y.mine ≡ k.mine ++ entry.Took (thread_of k) l s ∷ []) × IsKept y (taken_now b l))
+TriedBy k b l s y reply.Took = HasTaken l.0 k y × ((y.mine ≡ k.mine ++ entry.Took (thread_of k) l s ∷ []) × KeepsHoldings y (taken_now b l))
 TriedBy k b l s y (reply.MissBusy h) = Misses k b l s (why.Busy h) y
 TriedBy k b l s y (reply.MissAvoid n) = Misses k b l s (why.Avoid n) y
 TriedBy k b l s y _ = ⊥
@@ -395,7 +395,7 @@ tried_so k b l s y (reply.Learnt i) t a f g = t
 tried_so k b l s y (reply.Refused x) t a f g = t
 
 -- a Try
-module _ (o : Opening) (sound : IsSound o) (k : Known) (b : Holdings) (kept : IsKept k b) (caller : IsCaller o k) (l : Lid) (s : List Frame) (r : Reply) (k' : Known) (a : IsAsked o k k' (Try l s) r) (few : l.0 < 256) (free : holds l.0 k ≡ false) (runs_now : mode_of k ≡ Running) (room : HasRoom 2 k) where
+module _ (o : Opening) (sound : IsSound o) (k : Known) (b : Holdings) (kept : KeepsHoldings k b) (caller : IsCaller o k) (l : Lid) (s : List Frame) (r : Reply) (k' : Known) (a : IsAsked o k k' (Try l s) r) (few : l.0 < 256) (free : holds l.0 k ≡ false) (runs_now : mode_of k ≡ Running) (room : HasRoom 2 k) where
   abbrev tt' : Tid
   tt' = thread_of k
 
@@ -459,7 +459,7 @@ module _ (o : Opening) (sound : IsSound o) (k : Known) (b : Holdings) (kept : Is
       by_holder None q = by_cover q (cover tc tt' l s th) refl
 
 -- a lock that a caller holds is one of the gate's, and it holds it once
-module _ (o : Opening) (sound : IsSound o) (k : Known) (b : Holdings) (kept : IsKept k b) (caller : IsCaller o k) (l : ℕ) (held : holds l k ≡ true) where
+module _ (o : Opening) (sound : IsSound o) (k : Known) (b : Holdings) (kept : KeepsHoldings k b) (caller : IsCaller o k) (l : ℕ) (held : holds l k ≡ true) where
   legal_seen : Legal o.constants (past k.seen)
   legal_seen = led_legal o k.number (past k.mine) (past k.seen) sound.legal caller.led
 
@@ -485,14 +485,14 @@ module _ (o : Opening) (sound : IsSound o) (k : Known) (b : Holdings) (kept : Is
   owes_one = held_some all_locks l (λ i. holds_at k.number i (past k.seen)) (low_lock l held_few) held
 
 -- so it may make an entry
-pub owned_one : (o : Opening) (sound : IsSound o) (k : Known) (b : Holdings) (kept : IsKept k b) (caller : IsCaller o k) (l : ℕ) (held : holds l k ≡ true) → 1 ≤ b.owed
+pub owned_one : (o : Opening) (sound : IsSound o) (k : Known) (b : Holdings) (kept : KeepsHoldings k b) (caller : IsCaller o k) (l : ℕ) (held : holds l k ≡ true) → 1 ≤ b.owed
 owned_one o sound k b kept caller l held = (let x = owes_one o sound k b kept caller l held in let y = owed_is k b kept in omega (arith, x, y))
 
-pub freeing_room : (o : Opening) (sound : IsSound o) (k : Known) (b : Holdings) (kept : IsKept k b) (caller : IsCaller o k) (l : ℕ) (held : holds l k ≡ true) → 1 ≤ k.left
+pub freeing_room : (o : Opening) (sound : IsSound o) (k : Known) (b : Holdings) (kept : KeepsHoldings k b) (caller : IsCaller o k) (l : ℕ) (held : holds l k ≡ true) → 1 ≤ k.left
 freeing_room o sound k b kept caller l held = (let x = owned_one o sound k b kept caller l held in let y = kept.room in omega (arith, x, y))
 
 -- a Release
-module _ (o : Opening) (sound : IsSound o) (k : Known) (b : Holdings) (kept : IsKept k b) (caller : IsCaller o k) (l : Lid) (r : Reply) (k' : Known) (a : IsAsked o k k' (Release l) r) (held : holds l.0 k ≡ true) (runs_now : mode_of k ≡ Running) where
+module _ (o : Opening) (sound : IsSound o) (k : Known) (b : Holdings) (kept : KeepsHoldings k b) (caller : IsCaller o k) (l : Lid) (r : Reply) (k' : Known) (a : IsAsked o k k' (Release l) r) (held : holds l.0 k ≡ true) (runs_now : mode_of k ≡ Running) where
   abbrev ft : Tid
   ft = thread_of k
 
@@ -511,7 +511,7 @@ module _ (o : Opening) (sound : IsSound o) (k : Known) (b : Holdings) (kept : Is
   once_there : count k.number l.0 fh ≡ 1
   once_there = ap (count k.number l.0) (longer o sound k b kept caller (Release l) r k' a) ∙ count_on k.number l.0 a.goes_on.0 (past k.seen) (silent o sound k b kept caller (Release l) r k' a) ∙ held_once o sound k b kept caller l.0 held
 
-  pub released : Released o l k k' × IsKept k' freed_now
+  pub released : Released o l k k' × KeepsHoldings k' freed_now
   released =
       let f = fit o sound k b kept caller (Release l) r k' a in
       let i = range o sound k b kept caller (Release l) r k' a in
@@ -529,7 +529,7 @@ module _ (o : Opening) (sound : IsSound o) (k : Known) (b : Holdings) (kept : Is
           freed = subst (HasFreed l.0 k) (sym now) (freed_by o sound k b kept caller (Release l) r k' a e l.0 fewest once_there ch run);
           added = ap (λ (y : Known). y.mine) now;
         },
-        subst (λ (y : Known). IsKept y freed_now) (sym now) (kept_with o sound k b kept caller (Release l) r k' a e freed_now
+        subst (λ (y : Known). KeepsHoldings y freed_now) (sym now) (kept_with o sound k b kept caller (Release l) r k' a e freed_now
             (after_freeing k.number l.0 fh (e ∷ fh) b fewest once_there ch run down (are o sound k b kept caller (Release l) r k' a))
             (let y = kept.room in let z : kept_for b.wants ≡ 0 = ap kept_for down in let w = owes_one o sound k b kept caller l.0 held in let v = owed_is k b kept in omega (arith, y, z, w, v))),
       )

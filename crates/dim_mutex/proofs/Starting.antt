@@ -12,7 +12,7 @@ use Rattle.dim_rag.specs.History.{past, mode}
 use Rattle.dim_run.specs.Callers.{Opening, Known, IsCaller}
 use Rattle.dim_mutex.specs.Standing.{IsIdle, held_below, holds_at, all_locks}
 use Rattle.dim_mutex.specs.Views.{fresh}
-use Rattle.dim_mutex.specs.Holdings.{AreHoldings, IsKept}
+use Rattle.dim_mutex.specs.Holdings.{AreHoldings, KeepsHoldings}
 
 held_none : (n : ℕ) (f : ℕ → Bool) → ((i : ℕ) → f i ≡ false) → held_below n f ≡ 0
 held_none zero f each = refl
@@ -26,7 +26,7 @@ none_set n m = elim (cases_lt m n) [
 ]
 
 -- who has nothing of a history holds nothing and waits for nothing
-pub none_held_yet : (k : Known) (l : Lid) (s : List Frame) → k.seen ≡ [] → IsKept k (record { held = replicate 256 false; owed = 0; wants = false; lock = l; stack = s })
+pub none_held_yet : (k : Known) (l : Lid) (s : List Frame) → k.seen ≡ [] → KeepsHoldings k (record { held = replicate 256 false; owed = 0; wants = false; lock = l; stack = s })
 none_held_yet k l s empty = record {
   are = subst (λ (x : List Entry). AreHoldings k.number (past x) (record { held = replicate 256 false; owed = 0; wants = false; lock = l; stack = s })) (sym empty) record {
     size = length-replicate 256 false;

@@ -28,7 +28,7 @@ kept_for true = 2
 kept_for false = 0
 
 -- a caller keeps its holdings, and may make enough entries to free all that it holds
-pub record IsKept (k : Known) (b : Holdings) : Type 0 where
+pub record KeepsHoldings (k : Known) (b : Holdings) : Type 0 where
   pub are : AreHoldings k.number (past k.seen) b
   pub room : b.owed + kept_for b.wants ≤ k.left
 

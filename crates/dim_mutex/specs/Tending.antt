@@ -9,7 +9,7 @@ use Rattle.dim_run.specs.Callers.{Known}
 use Rattle.dim_run.specs.Settle.{breaks, settled}
 use Rattle.dim_mutex.specs.declared.closed.Closed.{Closed}
 use Rattle.dim_mutex.specs.declared.holdings.Holdings.{Holdings}
-use Rattle.dim_mutex.specs.Holdings.{IsKept}
+use Rattle.dim_mutex.specs.Holdings.{KeepsHoldings}
 use Rattle.dim_mutex.specs.Standing.{is_allowed, mode_of, wanted, owed, HoldsSame}
 use Rattle.dim_mutex.specs.Views.{DomainView, CallerView, opening, allowance_of, fresh, AreCallersOf}
 use Rattle.dim_mutex.specs.Closing.{EndsWith, IsClosedWith}
@@ -64,7 +64,7 @@ pub record MayAllow (d : DomainView) (cs : List CallerView) (allowance bound : �
 
 -- where a caller and holdings stand at one place, they are the caller's
 abbrev pub EachKept : List CallerView → List Holdings → Type 0
-EachKept cs bs = (i : ℕ) (c : CallerView) (b : Holdings) → slice_get cs i ≡ Some c → slice_get bs i ≡ Some b → IsKept c.known b
+EachKept cs bs = (i : ℕ) (c : CallerView) (b : Holdings) → slice_get cs i ≡ Some c → slice_get bs i ≡ Some b → KeepsHoldings c.known b
 
 -- these are the holdings of these callers, one for each, in order
 pub record AreKept (cs : List CallerView) (bs : List Holdings) : Type 0 where

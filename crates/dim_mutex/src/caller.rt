@@ -3,7 +3,7 @@ ghost use Rattle.std.specs.Prelude.{◌≡◌, ◌+◌, ◌<◌, ◌≤◌, [], 
 ghost use Rattle.dim_rag.specs.declared.entry.Mode.TheVariants.{Running};
 ghost use Rattle.dim_turn.specs.Passes.{seen_of};
 ghost use Rattle.dim_run.specs.Gates.{known};
-ghost use Rattle.dim_mutex.specs.Holdings.{IsKept, Watches};
+ghost use Rattle.dim_mutex.specs.Holdings.{KeepsHoldings, Watches};
 ghost use Rattle.dim_mutex.specs.Views.{view_of};
 ghost use Rattle.dim_mutex.specs.Standing.{holds, is_running, mode_of, owed, wanted};
 
@@ -33,13 +33,13 @@ pub struct Caller {
 impl Model for Caller {
     ghost use Rattle.dim_run.specs.Gates.{known};
     ghost use Rattle.dim_mutex.specs.Views.{CallerView};
-    ghost use Rattle.dim_mutex.specs.Holdings.{IsKept, Watches};
+    ghost use Rattle.dim_mutex.specs.Holdings.{KeepsHoldings, Watches};
 
     ghost Value = { CallerView };
 
     ghost view = { λ c. record { seat = c.pass.seat; known = known c.pass } };
 
-    ghost invariant = { λ c. IsKept (known c.pass) c.own × Watches c.monitor (known c.pass).seen };
+    ghost invariant = { λ c. KeepsHoldings (known c.pass) c.own × Watches c.monitor (known c.pass).seen };
 }
 
 impl Caller {
@@ -60,7 +60,7 @@ impl Caller {
 
     /// The caller of a pass, with these holdings.
     pub(crate) fn seated(pass: Pass, own: Holdings) -> Caller
-        requires { IsKept (known pass) own }
+        requires { KeepsHoldings (known pass) own }
         ensures { result ≡ view_of pass }
     {
         Caller {
@@ -95,7 +95,7 @@ impl Caller {
 
     /// What it keeps of how it stands.
     pub(crate) fn holdings(&self) -> Holdings
-        ensures { IsKept self.now.known result }
+        ensures { KeepsHoldings self.now.known result }
     {
         self.own
     }

@@ -1,7 +1,7 @@
 //! A history with candidates.
 ghost use Rattle.std.specs.Prelude.{◌≡◌, ◌+◌, ◌∷◌, ◌++◌, [], ◌<◌, All, None, IfOk, OnOk, length};
 ghost use Rattle.dim_stack.specs.Names.{IsNamedBy};
-ghost use Rattle.dim_signature.specs.Catalogue.{number_of};
+ghost use Rattle.dim_signature.specs.Catalogue.{signature_number};
 ghost use Rattle.dim_history_file.specs.Spelling.{lines_before_end, sig_lines, text_of, EndLine};
 ghost use Rattle.dim_history_file.specs.declared.version.Version.TheVariants.{Two};
 ghost use Rattle.dim_history_file.specs.Value.{AreNamed, named, named_sig};
@@ -70,7 +70,7 @@ fn bytes_before_end(alloc: Global, history: &History) -> Result<usize, OutOfMemo
 /// Adds a signature to fewer than 4,096 others, none of which has its stacks.
 fn add(alloc: Global, catalogue: &mut Catalogue, sig: &Signature) -> Result<(), OutOfMemory>
     requires few { length catalogue.old.sigs < 4096 }
-    requires new { number_of catalogue.old.sigs sig.now.stacks ≡ None }
+    requires new { signature_number catalogue.old.sigs sig.now.stacks ≡ None }
     ensures { OnOk result (catalogue.new.sigs ≡ catalogue.old.sigs ++ sig.now ∷ []) }
 {
     match catalogue.add(sig.copy(alloc)?) {

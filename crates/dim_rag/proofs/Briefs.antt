@@ -10,7 +10,7 @@ use Rattle.dim_rag.specs.declared.entry.MissWhy.TheVariants.{Busy, Avoid}
 use Rattle.dim_rag.specs.declared.journal.brief.Brief.{Brief}
 use Rattle.dim_rag.specs.declared.journal.brief.Brief.TheVariants as brief
 use Rattle.dim_rag.specs.Span.{Extent, frames_in, IsIn}
-use Rattle.dim_rag.specs.Journal.{births_at, entry_of, entries_of, stack_of, births_of, brief_of, IsWithin, IsJournal}
+use Rattle.dim_rag.specs.Journal.{births_at, entry_in_full, entries_of, stack_of, births_of, brief_of, IsWithin, IsJournal}
 
 pub none_more : {X : Type 0} (xs : List X) → xs ≡ xs ++ []
 none_more xs = sym (append-nil xs)
@@ -28,7 +28,7 @@ births_stay bs ys b lt = get_or_append_left bs ys [] b lt
 
 module _ (fs xs : List Frame) (bs ys : List (List ℕ)) where
   -- an entry stays
-  entry_stays : (b : Brief) → IsWithin (length fs) (length bs) b → entry_of (fs ++ xs) (bs ++ ys) b ≡ entry_of fs bs b
+  entry_stays : (b : Brief) → IsWithin (length fs) (length bs) b → entry_in_full (fs ++ xs) (bs ++ ys) b ≡ entry_in_full fs bs b
   entry_stays (brief.Went t l p) k = ap (λ s. Go t l s) (frames_stay fs xs p k)
   entry_stays (brief.Yielded t l p sig b) k = ap₂ (λ s c. Yield t l s sig c) (frames_stay fs xs p k.0) (births_stay bs ys b k.1)
   entry_stays (brief.Obtained t l) k = refl
@@ -54,7 +54,7 @@ births_back : (bs : List (List ℕ)) (b : List ℕ) → births_at (bs ++ b ∷ [
 births_back bs b = get_or_push bs b [] (length bs) refl
 
 -- the newest entry is there
-pub entry_back : (fs : List Frame) (bs : List (List ℕ)) (e : Entry) → entry_of (fs ++ stack_of e) (bs ++ births_of e) (brief_of (length fs) (length bs) e) ≡ e
+pub entry_back : (fs : List Frame) (bs : List (List ℕ)) (e : Entry) → entry_in_full (fs ++ stack_of e) (bs ++ births_of e) (brief_of (length fs) (length bs) e) ≡ e
 entry_back fs bs (Go t l s) = ap (λ x. Go t l x) (frames_back fs s)
 entry_back fs bs (Yield t l s sig b) = ap₂ (λ x c. Yield t l x sig c) (frames_back fs s) (births_back bs b)
 entry_back fs bs (Got t l) = refl
@@ -70,7 +70,7 @@ entry_back fs bs (Learn b) = ap (λ c. Learn c) (births_back bs b)
 pub entries_more : (fs : List Frame) (bs : List (List ℕ)) (briefs : List Brief) (e : Entry) → All (IsWithin (length fs) (length bs)) briefs
     → entries_of (fs ++ stack_of e) (bs ++ births_of e) (briefs ++ brief_of (length fs) (length bs) e ∷ []) ≡ entries_of fs bs briefs ++ e ∷ []
 entries_more fs bs briefs e k =
-    map-append (entry_of (fs ++ stack_of e) (bs ++ births_of e)) briefs (brief_of (length fs) (length bs) e ∷ [])
+    map-append (entry_in_full (fs ++ stack_of e) (bs ++ births_of e)) briefs (brief_of (length fs) (length bs) e ∷ [])
     ∙ ap₂ (λ es x. es ++ x ∷ []) (entries_stay fs (stack_of e) bs (births_of e) briefs k) (entry_back fs bs e)
 
 -- what is named stays there

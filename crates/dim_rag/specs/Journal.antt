@@ -21,21 +21,21 @@ abbrev pub births_at : List (List ℕ) → ℕ → List ℕ
 births_at bs n = slice_index_or bs n []
 
 -- the entry that a brief one stands for
-abbrev pub entry_of : List Frame → List (List ℕ) → Brief → Entry
-entry_of fs bs (brief.Went t l p) = Go t l (frames_in fs p)
-entry_of fs bs (brief.Yielded t l p sig b) = Yield t l (frames_in fs p) sig (births_at bs b)
-entry_of fs bs (brief.Obtained t l) = Got t l
-entry_of fs bs (brief.Freed t l) = Free t l
-entry_of fs bs (brief.Took t l p) = Took t l (frames_in fs p)
-entry_of fs bs (brief.MissedBusy t l p holder) = Miss t l (frames_in fs p) (Busy holder)
-entry_of fs bs (brief.MissedAvoid t l p sig b) = Miss t l (frames_in fs p) (Avoid record { sig = sig; births = births_at bs b })
-entry_of fs bs (brief.Ended t why) = End t why
-entry_of fs bs (brief.Broken set t) = Break set t
-entry_of fs bs (brief.Learnt b) = Learn (births_at bs b)
+abbrev pub entry_in_full : List Frame → List (List ℕ) → Brief → Entry
+entry_in_full fs bs (brief.Went t l p) = Go t l (frames_in fs p)
+entry_in_full fs bs (brief.Yielded t l p sig b) = Yield t l (frames_in fs p) sig (births_at bs b)
+entry_in_full fs bs (brief.Obtained t l) = Got t l
+entry_in_full fs bs (brief.Freed t l) = Free t l
+entry_in_full fs bs (brief.Took t l p) = Took t l (frames_in fs p)
+entry_in_full fs bs (brief.MissedBusy t l p holder) = Miss t l (frames_in fs p) (Busy holder)
+entry_in_full fs bs (brief.MissedAvoid t l p sig b) = Miss t l (frames_in fs p) (Avoid record { sig = sig; births = births_at bs b })
+entry_in_full fs bs (brief.Ended t why) = End t why
+entry_in_full fs bs (brief.Broken set t) = Break set t
+entry_in_full fs bs (brief.Learnt b) = Learn (births_at bs b)
 
 -- the entries that these brief ones stand for
 abbrev pub entries_of : List Frame → List (List ℕ) → List Brief → List Entry
-entries_of fs bs briefs = map (entry_of fs bs) briefs
+entries_of fs bs briefs = map (entry_in_full fs bs) briefs
 
 -- the frames that an entry needs
 abbrev pub stack_of : Entry → List Frame

@@ -10,7 +10,7 @@ mod span;
 use crate::births::Births;
 use crate::entry::{Entry, MissWhy};
 use crate::entry_ref::EntryRef;
-use brief::{Brief, brief_of, entry_of, is_learn, look, yielded};
+use brief::{Brief, brief_of, entry_in_full, is_learn, look, yielded};
 use dim_base::{OutOfMemory, Tid};
 use dim_stack::Frame;
 use std::alloc::Global;
@@ -119,7 +119,7 @@ impl Journal {
         requires { place < length self.now.entries }
         ensures { slice_get self.now.entries place ≡ Some result }
     {
-        entry_of(&self.frames, &self.births, &self.briefs[place as usize])
+        entry_in_full(&self.frames, &self.births, &self.briefs[place as usize])
     }
 
     /// The entry at a place below the length, by reference. It makes no entry.
@@ -178,7 +178,7 @@ fn entries_of(
 {
     let mut all = Vec::new(alloc);
     for brief in briefs {
-        add(&mut all, entry_of(frames, births, brief))?;
+        add(&mut all, entry_in_full(frames, births, brief))?;
     }
     Ok(all)
 }

@@ -22,7 +22,7 @@ use Rattle.dim_gate.specs.Gate.{Gate, Constants, constants, replay}
 use Rattle.dim_gate.specs.Known.{Known, knowns, known_sigs, learnt}
 use Rattle.dim_gate.specs.Legal.{Legal, IsLegalAfter}
 use Rattle.dim_gate.proofs.Exports.{legal_yield}
-use Rattle.dim_run.specs.Grown.{is_yield_of, yields_of, counted_from, grown, GrownLaw, AreNumbered, with_yield}
+use Rattle.dim_run.specs.Grown.{is_yield_of, yields_of, counted_from, grown, GrownLaw, YieldsNameOneOf, with_yield}
 
 -- ---- counting
 -- where the later numbers are named as often, the counts are the same
@@ -124,7 +124,7 @@ count_more es place o ss now new low q is step =
     ∙ ap (λ b. yields_of m (take place es) + one_if b) (same_test m (get_or es place d) ∙ ap (λ x. is_this x m) (named_at es place d o low q)))
 
 -- while they are counted, the numbers that are named stay in range
-pub still_numbered : (es : List Entry) (place : ℕ) (o : Option ℕ) (ss now : List Sig) → AreNumbered (length ss) es → slice_get (map yielded es) place ≡ Some o → now ≡ counted_from 0 (take place es) ss → IfSome o (λ i. i < length now)
+pub still_numbered : (es : List Entry) (place : ℕ) (o : Option ℕ) (ss now : List Sig) → YieldsNameOneOf (length ss) es → slice_get (map yielded es) place ≡ Some o → now ≡ counted_from 0 (take place es) ss → IfSome o (λ i. i < length now)
 still_numbered es place None ss now all q is = tt
 still_numbered es place (Some i) ss now all q is =
     let low : i < length ss = all place i q in
@@ -213,23 +213,23 @@ turned P (x ∷ xs) a =
     let both : AllByRecursion P (reverse xs ++ x ∷ []) = subst (AllByRecursion P) (reverse-append (x ∷ []) xs) a in
     ((all_right P (reverse xs) (x ∷ []) both).0, turned P xs (all_left P (reverse xs) (x ∷ []) both))
 
-by_place : (n : ℕ) (es : List Entry) → AllByRecursion (IsNumbered n) es → AreNumbered n es
+by_place : (n : ℕ) (es : List Entry) → AllByRecursion (IsNumbered n) es → YieldsNameOneOf n es
 by_place n [] a place i q = absurd (let x : None ≡ Some (Some i) = q in cc)
 by_place n (e ∷ es) a zero i q = subst (λ (o : Option ℕ). IfSome o (λ i. i < n)) (same_Some (yielded e) (Some i) q) a.0
 by_place n (e ∷ es) a (suc place) i q = by_place n es a.1 place i q
 
 -- each Yield of a legal history names one of the signatures that are known after it
-pub numbered : (c : Constants) (es : List Entry) → Legal c (past es) → AreNumbered (length (known_sigs c.loaded c.depth (past es))) es
+pub numbered : (c : Constants) (es : List Entry) → Legal c (past es) → YieldsNameOneOf (length (known_sigs c.loaded c.depth (past es))) es
 numbered c es k =
     let n : ℕ = length (known_sigs c.loaded c.depth (past es)) in
     by_place n es (turned (IsNumbered n) es (all_named c n (past es) k (omega arith)))
 
 -- ---- at a gate
 -- the Yields in the tables of a gate name signatures of its catalogue
-pub numbered_at : (g : Gate) (tables : Replay) (sigs : List Sig) → tables ≡ replay g → sigs ≡ known_sigs g.loaded g.depth (past g.entries) → Legal (constants g) (past g.entries) → AreNumbered (length sigs) tables.entries
+pub numbered_at : (g : Gate) (tables : Replay) (sigs : List Sig) → tables ≡ replay g → sigs ≡ known_sigs g.loaded g.depth (past g.entries) → Legal (constants g) (past g.entries) → YieldsNameOneOf (length sigs) tables.entries
 numbered_at g tables sigs same is legal =
-    subst (λ (x : Replay). AreNumbered (length sigs) x.entries) (sym same)
-    (subst (λ (x : List Sig). AreNumbered (length x) g.entries) (sym is) (numbered (constants g) g.entries legal))
+    subst (λ (x : Replay). YieldsNameOneOf (length sigs) x.entries) (sym same)
+    (subst (λ (x : List Sig). YieldsNameOneOf (length x) g.entries) (sym is) (numbered (constants g) g.entries legal))
 
 -- where they are counted, the signatures have grown
 pub grown_at : (before g : Gate) (tables : Replay) (sigs now : List Sig) → g ≡ before → tables ≡ replay g → sigs ≡ known_sigs g.loaded g.depth (past g.entries) → now ≡ counted_from 0 tables.entries sigs → now ≡ grown before.loaded before.depth before.entries

@@ -12,7 +12,7 @@ use Rattle.dim_rag.specs.History.{past}
 use Rattle.dim_rag.specs.Steps.{IsCycle, births}
 use Rattle.dim_rag.specs.Waits.{waits}
 use Rattle.dim_signature.specs.Sig.{Sig, counted, fresh}
-use Rattle.dim_signature.specs.Catalogue.{number_of}
+use Rattle.dim_signature.specs.Catalogue.{signature_number}
 use Rattle.dim_signature.proofs.Exports.{found}
 use Rattle.dim_gate.specs.Gate.{Constants}
 use Rattle.dim_gate.specs.Known.{Known, knowns, known_sigs, learnt_sig, stacks_of as stacks_born}
@@ -56,10 +56,10 @@ few_learns c low (End t why ∷ h) k = few_learns c low h k.1
 few_learns c low (Break set t ∷ h) k = few_learns c low h k.1
 
 -- who is known has a number
-numbered : (sigs : List Sig) (stacks : List (List Frame)) → is_some (number_of sigs stacks) ≡ true → (i : ℕ) × (s : Sig) × (slice_get sigs i ≡ Some s) × (s.stacks ≡ stacks)
-numbered sigs stacks q = go (number_of sigs stacks) refl q
+numbered : (sigs : List Sig) (stacks : List (List Frame)) → is_some (signature_number sigs stacks) ≡ true → (i : ℕ) × (s : Sig) × (slice_get sigs i ≡ Some s) × (s.stacks ≡ stacks)
+numbered sigs stacks q = go (signature_number sigs stacks) refl q
   where
-    go : (o : Option ℕ) → number_of sigs stacks ≡ o → is_some o ≡ true → (i : ℕ) × (s : Sig) × (slice_get sigs i ≡ Some s) × (s.stacks ≡ stacks)
+    go : (o : Option ℕ) → signature_number sigs stacks ≡ o → is_some o ≡ true → (i : ℕ) × (s : Sig) × (slice_get sigs i ≡ Some s) × (s.stacks ≡ stacks)
     go None r q = absurd (false≢true q)
     go (Some i) r q = let w = found sigs stacks i r in (i, w.0, w.1, w.2)
 

@@ -13,7 +13,7 @@ use Rattle.dim_rag.specs.Stuck.{choice}
 use Rattle.dim_rag.specs.Certificate.{cycle_fault}
 use Rattle.dim_rag.specs.Starvation.{starved}
 use Rattle.dim_rag.proofs.Exports.{waits_same, choice_same}
-use Rattle.dim_signature.specs.Catalogue.{number_of}
+use Rattle.dim_signature.specs.Catalogue.{signature_number}
 use Rattle.dim_gate.specs.Gate.{Constants}
 use Rattle.dim_gate.specs.Known.{known_sigs, stacks_of}
 use Rattle.dim_gate.specs.Starved.{unlearnt}
@@ -170,9 +170,9 @@ module _ (c : Constants) (h : List Entry) where
 
     -- what is known stays known
     known_on : (ps : List ℕ) → is_known c h ps ≡ true → is_known c g ps ≡ true
-    known_on ps k = go (number_of (known_sigs c.loaded c.depth g) (stacks_of ps g)) refl
+    known_on ps k = go (signature_number (known_sigs c.loaded c.depth g) (stacks_of ps g)) refl
       where
-        go : (o : Option ℕ) → number_of (known_sigs c.loaded c.depth g) (stacks_of ps g) ≡ o → is_some o ≡ true
+        go : (o : Option ℕ) → signature_number (known_sigs c.loaded c.depth g) (stacks_of ps g) ≡ o → is_some o ≡ true
         go (Some i) q = refl
         go None q = absurd (false≢true (sym (ap is_some (missing_before c.threads c.locks c.cap c.loaded c.depth b h ps q)) ∙ k))
 

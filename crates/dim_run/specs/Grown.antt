@@ -37,8 +37,8 @@ pub record GrownLaw : Type 0 where
       → slice_get (grown loaded depth entries) i ≡ Some (counted (yields_of i entries) s)
 
 -- each Yield of these entries names one of so many signatures
-abbrev pub AreNumbered : ℕ → List Entry → Type 0
-AreNumbered n entries = (place i : ℕ) → slice_get (map yielded entries) place ≡ Some (Some i)
+abbrev pub YieldsNameOneOf : ℕ → List Entry → Type 0
+YieldsNameOneOf n entries = (place i : ℕ) → slice_get (map yielded entries) place ≡ Some (Some i)
     → i < n
 
 -- the signatures with one yield more of the one with this number, if there is one

@@ -5,7 +5,7 @@ ghost use Rattle.dim_events.specs.Kinds.{totals_of};
 ghost use Rattle.dim_gate.specs.Gate.{constants, replay};
 ghost use Rattle.dim_gate.specs.Kinds.{kind_of};
 ghost use Rattle.dim_gate.specs.Legal.{Legal};
-ghost use Rattle.dim_run.specs.Grown.{AreNumbered, counted_from, grown, with_yield};
+ghost use Rattle.dim_run.specs.Grown.{YieldsNameOneOf, counted_from, grown, with_yield};
 
 use dim_events::Totals;
 use dim_gate::GateState;
@@ -31,7 +31,7 @@ pub(crate) fn finish(gate: GateState) -> (Tables, Catalogue, Totals)
 /// Counts each Yield of some tables for the signature that it names, in one walk over their places.
 /// It takes no memory.
 fn count_yields(tables: &Tables, catalogue: &mut Catalogue)
-    requires numbered { AreNumbered (length catalogue.old.sigs) tables.now.entries }
+    requires numbered { YieldsNameOneOf (length catalogue.old.sigs) tables.now.entries }
     ensures { catalogue.new.sigs ≡ counted_from 0 tables.now.entries catalogue.old.sigs }
 {
     let _in_range = catalogue.len(); // for the proof: the numbers of yields are in range

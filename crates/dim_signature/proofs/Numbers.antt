@@ -15,7 +15,7 @@ use Rattle.std.proofs.lemmas.Slice.Eq.{slice_eq-Decides}
 use Rattle.dim_stack.specs.declared.Frame.{Frame}
 use Rattle.dim_stack.specs.Order.{frame_eq}
 use Rattle.dim_signature.specs.Sig.{Sig}
-use Rattle.dim_signature.specs.Catalogue.{FoundLaw, MissingLaw, OwnLaw, has_stacks, number_of}
+use Rattle.dim_signature.specs.Catalogue.{FoundLaw, MissingLaw, OwnLaw, has_stacks, signature_number}
 use Rattle.dim_signature.specs.Order.{BelongsAt, IsOrder, no_sig, stacks_at, stacks_cmp, stacks_of}
 use Rattle.dim_signature.proofs.Ordered.{stacks_total}
 
@@ -29,21 +29,21 @@ pub has_stacks-Decides : (stacks : List (List Frame)) (s : Sig) → Decides (has
 has_stacks-Decides stacks s = slice_eq-Decides (λ x y. slice_eq-Decides frame_eq-Decides x y (pointwise frame_eq x y) refl) s.stacks stacks (has_stacks stacks s) refl
 
 module _ (sigs : List Sig) (stacks : List (List Frame)) where
-  pub number_is : (n : ℕ) → n < length sigs → stacks_of sigs n ≡ stacks → ((k : ℕ) → k < n → stacks_of sigs k ≡ stacks → ⊥) → number_of sigs stacks ≡ Some n
+  pub number_is : (n : ℕ) → n < length sigs → stacks_of sigs n ≡ stacks → ((k : ℕ) → k < n → stacks_of sigs k ≡ stacks → ⊥) → signature_number sigs stacks ≡ Some n
   number_is n h e others =
       let p = position_or_len_is (has_stacks stacks) sigs n no_sig (omega arith)
       (λ k l. false_from_ne_true (has_stacks stacks (get_or sigs k no_sig)) (λ t. others k l ((has_stacks-Decides stacks (get_or sigs k no_sig)).0 t)))
       (λ l. (has_stacks-Decides stacks (get_or sigs n no_sig)).1 e) in
       cond-true (ltb (position_or_len (has_stacks stacks) sigs) (length sigs)) _ None (lt-ltb _ _ (omega arith)) ∙ ap Some p
 
-  pub number_is_none : ((k : ℕ) → k < length sigs → stacks_of sigs k ≡ stacks → ⊥) → number_of sigs stacks ≡ None
+  pub number_is_none : ((k : ℕ) → k < length sigs → stacks_of sigs k ≡ stacks → ⊥) → signature_number sigs stacks ≡ None
   number_is_none none =
       let p = position_or_len_is (has_stacks stacks) sigs (length sigs) no_sig (omega arith)
       (λ k l. false_from_ne_true (has_stacks stacks (get_or sigs k no_sig)) (λ t. none k l ((has_stacks-Decides stacks (get_or sigs k no_sig)).0 t)))
       (λ l. absurd (omega arith)) in
       cond-false (ltb (position_or_len (has_stacks stacks) sigs) (length sigs)) (Some (position_or_len (has_stacks stacks) sigs)) None (le-ltb _ _ (omega arith))
 
-  pub none_has : number_of sigs stacks ≡ None → (k : ℕ) (d : Sig) → k < length sigs → (get_or sigs k d).stacks ≡ stacks → ⊥
+  pub none_has : signature_number sigs stacks ≡ None → (k : ℕ) (d : Sig) → k < length sigs → (get_or sigs k d).stacks ≡ stacks → ⊥
   none_has e k d h same =
       let first = position_or_len (has_stacks stacks) sigs in
       let has : has_stacks stacks (get_or sigs k d) ≡ true = (has_stacks-Decides stacks (get_or sigs k d)).1 same in
@@ -90,11 +90,11 @@ module _ (sigs : List Sig) (order : List ℕ) (o : IsOrder sigs order) where
       ]
 
   -- what the search answers where it finds the stacks
-  pub number_found : (stacks : List (List Frame)) (n : ℕ) → n < length sigs → stacks_of sigs n ≡ stacks → number_of sigs stacks ≡ Some n
+  pub number_found : (stacks : List (List Frame)) (n : ℕ) → n < length sigs → stacks_of sigs n ≡ stacks → signature_number sigs stacks ≡ Some n
   number_found stacks n h e = number_is sigs stacks n h e (λ k l same. (let f = only_number k n (omega arith) h (same ∙ sym e) in omega arith))
 
   -- and where they belong at a place
-  pub belongs_new : (stacks : List (List Frame)) (place : ℕ) → BelongsAt sigs order stacks place → number_of sigs stacks ≡ None
+  pub belongs_new : (stacks : List (List Frame)) (place : ℕ) → BelongsAt sigs order stacks place → signature_number sigs stacks ≡ None
   belongs_new stacks place b = number_is_none sigs stacks (λ i h e.
       let a = o.all i h in
       let same : stacks_cmp (stacks_at sigs order a.0) stacks ≡ Equal = ap (λ s. stacks_cmp s stacks) (ap (stacks_of sigs) a.2 ∙ e) ∙ tied_itself stacks_total stacks in

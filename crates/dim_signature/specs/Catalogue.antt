@@ -23,8 +23,8 @@ abbrev pub has_stacks : List (List Frame) → Sig → Bool
 has_stacks stacks s = pointwise (pointwise frame_eq) s.stacks stacks
 
 -- the number of the signature with these stacks, if there is one
-abbrev pub number_of : List Sig → List (List Frame) → Option ℕ
-number_of sigs stacks = position (has_stacks stacks) sigs
+abbrev pub signature_number : List Sig → List (List Frame) → Option ℕ
+signature_number sigs stacks = position (has_stacks stacks) sigs
 
 -- the signatures, of which the one with this number is another: what `change` makes of it
 abbrev pub changed_at : ℕ → (Sig → Sig) → List Sig → List Sig
@@ -32,24 +32,24 @@ changed_at i change sigs = slice_set sigs i (change (slice_index_or sigs i (fres
 
 -- the signature with that number has these stacks
 abbrev pub FoundLaw : Type 0
-FoundLaw = (sigs : List Sig) (stacks : List (List Frame)) (n : ℕ) → number_of sigs stacks ≡ Some n
+FoundLaw = (sigs : List Sig) (stacks : List (List Frame)) (n : ℕ) → signature_number sigs stacks ≡ Some n
     → (s : Sig) × (slice_get sigs n ≡ Some s) × (s.stacks ≡ stacks)
 
 -- where there is no number, no signature has them
 abbrev pub MissingLaw : Type 0
-MissingLaw = (sigs : List Sig) (stacks : List (List Frame)) → number_of sigs stacks ≡ None
+MissingLaw = (sigs : List Sig) (stacks : List (List Frame)) → signature_number sigs stacks ≡ None
     → All (λ s. s.stacks ≢ stacks) sigs
 
 -- the stacks of each signature of a catalogue have its own number
 abbrev pub OwnLaw : Type 0
 OwnLaw = (sigs : List Sig) → IsCatalogue sigs → (n : ℕ) (s : Sig) → slice_get sigs n ≡ Some s
-    → number_of sigs s.stacks ≡ Some n
+    → signature_number sigs s.stacks ≡ Some n
 
 -- no state and no number of yields says which stacks have which number
 abbrev pub SwitchedLaw : Type 0
 SwitchedLaw = (sigs : List Sig) (i : ℕ) (on : Bool) (stacks : List (List Frame))
-    → number_of (changed_at i (switched on) sigs) stacks ≡ number_of sigs stacks
+    → signature_number (changed_at i (switched on) sigs) stacks ≡ signature_number sigs stacks
 
 abbrev pub CountedLaw : Type 0
 CountedLaw = (sigs : List Sig) (i more : ℕ) (stacks : List (List Frame))
-    → number_of (changed_at i (counted more) sigs) stacks ≡ number_of sigs stacks
+    → signature_number (changed_at i (counted more) sigs) stacks ≡ signature_number sigs stacks

@@ -46,7 +46,7 @@ pub record IsRoom (room : Vec (List Frame) Global) : Type 0 where
   pub wide : 32 ≤ vec_capacity room
 
 -- how a catalogue keeps its signatures
-pub record IsKept (list : Vec Sig Global) (numbers : Vec ℕ Global) (empty : Vec (Vec (List Frame) Global) Global) : Type 0 where
+pub record AreNumbered (list : Vec Sig Global) (numbers : Vec ℕ Global) (empty : Vec (Vec (List Frame) Global) Global) : Type 0 where
   pub catalogue : IsCatalogue list.items
   pub order : IsOrder list.items numbers.items
   pub rooms : All IsRoom empty.items

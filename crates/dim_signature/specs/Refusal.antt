@@ -6,7 +6,7 @@ use Rattle.dim_signature.specs.declared.signature.SigFault.TheVariants.{TooFew, 
 use Rattle.dim_signature.specs.declared.catalogue.Add.{Add}
 use Rattle.dim_signature.specs.declared.catalogue.Add.TheVariants.{Known, Full}
 use Rattle.dim_signature.specs.Sig.{Sig}
-use Rattle.dim_signature.specs.Catalogue.{number_of}
+use Rattle.dim_signature.specs.Catalogue.{signature_number}
 
 -- why this depth and so many stacks make no signature, the first cause that applies
 abbrev pub fault_of : ℕ → ℕ → Option SigFault
@@ -22,4 +22,4 @@ refused None count = if nat_lt count 4096 then None else Some Full
 
 -- why signatures take no more one with these stacks: it is known, or there are 4,096
 abbrev pub refusal_of : List Sig → List (List Frame) → Option Add
-refusal_of sigs stacks = refused (number_of sigs stacks) (length sigs)
+refusal_of sigs stacks = refused (signature_number sigs stacks) (length sigs)

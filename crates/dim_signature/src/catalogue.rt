@@ -2,7 +2,7 @@
 ghost use Rattle.std.specs.Prelude.{◌≡◌, ◌⊎◌, ◌<◌, ◌≤◌, ◌++◌, ◌∷◌, ◌+◌, ◌-◌, [], All, length, max, slice_get, vec_capacity, IfOk, IfErr, IfSome, OnOk, OnErr, Some, None};
 ghost use Rattle.dim_signature.specs.Sig.{IsSig, counted, fresh, switched};
 ghost use Rattle.dim_signature.specs.Sorted.{AreSorted};
-ghost use Rattle.dim_signature.specs.Catalogue.{CountedLaw, FoundLaw, IsCatalogue, MissingLaw, OwnLaw, SwitchedLaw, changed_at, number_of};
+ghost use Rattle.dim_signature.specs.Catalogue.{CountedLaw, FoundLaw, IsCatalogue, MissingLaw, OwnLaw, SwitchedLaw, changed_at, signature_number};
 ghost use Rattle.dim_signature.specs.Order.{IsRoom};
 ghost use Rattle.dim_signature.specs.Refusal.{refusal_of};
 
@@ -54,13 +54,13 @@ pub struct Catalogue {
 impl Model for Catalogue {
     ghost use Rattle.std.specs.Prelude.{length};
     ghost use Rattle.dim_signature.specs.Catalogue.{Contents};
-    ghost use Rattle.dim_signature.specs.Order.{IsKept};
+    ghost use Rattle.dim_signature.specs.Order.{AreNumbered};
 
     ghost Value = { Contents };
 
     ghost view = { λ c. record { sigs = c.list.items; spare = length c.rooms.items } };
 
-    ghost invariant = { λ c. IsKept c.list c.order c.rooms };
+    ghost invariant = { λ c. AreNumbered c.list c.order c.rooms };
 }
 
 impl Catalogue {
@@ -95,7 +95,7 @@ impl Catalogue {
 
     /// The number of the signature with these stacks in this order, and None where there is none.
     pub fn find(&self, sorted: &[Stack]) -> Option<u32>
-        ensures { result ≡ number_of self.now.sigs sorted.now }
+        ensures { result ≡ signature_number self.now.sigs sorted.now }
     {
         search(&self.list, &self.order, sorted).ok()
     }
@@ -142,7 +142,7 @@ impl Catalogue {
         requires few { length self.old.sigs < 4096 }
         requires signature { IsSig (fresh depth sorted.now) }
         requires ordered { AreSorted sorted.now }
-        requires unknown { number_of self.old.sigs sorted.now ≡ None }
+        requires unknown { signature_number self.old.sigs sorted.now ≡ None }
         ensures number { result ≡ length self.old.sigs }
         ensures learnt { self.new ≡ record {
           sigs = self.old.sigs ++ fresh depth sorted.now ∷ [];

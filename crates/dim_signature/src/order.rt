@@ -1,7 +1,7 @@
 //! The numbers of signatures in the order of their stacks.
 ghost use Rattle.std.specs.Prelude.{◌≡◌, ◌++◌, ◌∷◌, ◌+◌, ◌<◌, ◌≤◌, [], length, IfErr, IsTrue, vec_capacity};
 ghost use Rattle.std.specs.Result.{result_ok};
-ghost use Rattle.dim_signature.specs.Catalogue.{number_of};
+ghost use Rattle.dim_signature.specs.Catalogue.{signature_number};
 ghost use Rattle.dim_signature.specs.Order.{BelongsAt, IsOrder, stacks_at, stacks_cmp};
 
 use crate::Signature;
@@ -11,7 +11,7 @@ use std::cmp::Ordering;
 /// The number of the signature with these stacks, or the place in the order where they belong.
 pub fn search(list: &[Signature], order: &[u32], stacks: &[Stack]) -> Result<u32, usize>
     requires { IsOrder list.now order.now }
-    ensures number { result_ok result ≡ number_of list.now stacks.now }
+    ensures number { result_ok result ≡ signature_number list.now stacks.now }
     ensures place { IfErr result (BelongsAt list.now order.now stacks.now) }
 {
     if are_last(list, order, stacks) {
@@ -34,7 +34,7 @@ fn are_last(list: &[Signature], order: &[u32], stacks: &[Stack]) -> bool
 // What `search` answers, by halves.
 fn search_all(list: &[Signature], order: &[u32], stacks: &[Stack]) -> Result<u32, usize>
     requires { IsOrder list.now order.now }
-    ensures number { result_ok result ≡ number_of list.now stacks.now }
+    ensures number { result_ok result ≡ signature_number list.now stacks.now }
     ensures place { IfErr result (BelongsAt list.now order.now stacks.now) }
 {
     let mut low = 0;

@@ -18,7 +18,7 @@ use Rattle.std.proofs.lemmas.Option.{slice_get-get_or, slice_get_within, get_or_
 use Rattle.std.proofs.lemmas.Slice.Eq.{bytes_eq-Decides}
 use Rattle.dim_stack.specs.declared.Frame.{Frame}
 use Rattle.dim_stack.specs.Order.{frame_cmp}
-use Rattle.dim_stack.specs.Names.{AreAscending, FoundLaw, IsNamedBy, MissingLaw, OrderLaw, OwnLaw, name_cmp, name_of, named_cmp, number_of}
+use Rattle.dim_stack.specs.Names.{AreAscending, FoundLaw, IsNamedBy, MissingLaw, OrderLaw, OwnLaw, name_cmp, name_of, named_cmp, name_number}
 use Rattle.dim_stack.proofs.TableLemmas.{equal_names, flip_names, name_total}
 
 pub found : FoundLaw
@@ -53,10 +53,10 @@ own names up n name e =
     cond-true (ltb (position_or_len (bytes_eq name) names) (length names)) _ None (lt-ltb _ _ (omega arith)) ∙ ap Some first
 
 -- what a search by order answers
-pub found_at : (names : List (List ℕ)) → AreAscending names → (i : ℕ) (name : List ℕ) → i < length names → name_cmp (get_or names i []) name ≡ Equal → number_of names name ≡ Some i
+pub found_at : (names : List (List ℕ)) → AreAscending names → (i : ℕ) (name : List ℕ) → i < length names → name_cmp (get_or names i []) name ≡ Equal → name_number names name ≡ Some i
 found_at names up i name h e = own names up i name (slice_get-get_or names i [] h ∙ ap Some (equal_names (get_or names i []) name e))
 
-pub missing_at : (names : List (List ℕ)) (i : ℕ) (name : List ℕ) → IsPartitionPoint (λ y. name_cmp y name ≡ Less) (λ y. name_cmp y name ≡ Greater) names i → number_of names name ≡ None
+pub missing_at : (names : List (List ℕ)) (i : ℕ) (name : List ℕ) → IsPartitionPoint (λ y. name_cmp y name ≡ Less) (λ y. name_cmp y name ≡ Greater) names i → name_number names name ≡ None
 missing_at names i name p =
     let none : (k : ℕ) → k < length names → bytes_eq name (get_or names k []) ≡ false = λ k h. false_from_ne_true (bytes_eq name (get_or names k [])) (λ t.
     let same : name_cmp (get_or names k []) name ≡ Equal = ap (name_cmp (get_or names k [])) ((bytes_eq-Decides name (get_or names k [])).0 t) ∙ tied_itself name_total (get_or names k []) in

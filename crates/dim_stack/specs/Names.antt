@@ -72,23 +72,23 @@ OnlyTableLaw = (names table : List (List ℕ)) → AreAscending table → HasSam
     → table ≡ table_of names
 
 -- the number of a name, if it stands in the table
-abbrev pub number_of : List (List ℕ) → List ℕ → Option ℕ
-number_of names name = position (bytes_eq name) names
+abbrev pub name_number : List (List ℕ) → List ℕ → Option ℕ
+name_number names name = position (bytes_eq name) names
 
 -- the name with that number is the one that was asked for
 abbrev pub FoundLaw : Type 0
-FoundLaw = (names : List (List ℕ)) (name : List ℕ) (n : ℕ) → number_of names name ≡ Some n
+FoundLaw = (names : List (List ℕ)) (name : List ℕ) (n : ℕ) → name_number names name ≡ Some n
     → slice_get names n ≡ Some name
 
 -- where there is no number, the name isn't there
 abbrev pub MissingLaw : Type 0
-MissingLaw = (names : List (List ℕ)) (name : List ℕ) → number_of names name ≡ None
+MissingLaw = (names : List (List ℕ)) (name : List ℕ) → name_number names name ≡ None
     → All (λ x. x ≢ name) names
 
 -- each name of a table has its own number
 abbrev pub OwnLaw : Type 0
 OwnLaw = (names : List (List ℕ)) → AreAscending names
-    → (n : ℕ) (name : List ℕ) → slice_get names n ≡ Some name → number_of names name ≡ Some n
+    → (n : ℕ) (name : List ℕ) → slice_get names n ≡ Some name → name_number names name ≡ Some n
 
 -- the name with a number
 abbrev pub name_of : List (List ℕ) → ℕ → List ℕ

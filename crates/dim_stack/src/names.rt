@@ -1,7 +1,7 @@
 //! Names of functions, by their numbers.
 ghost use Rattle.std.specs.Prelude.{◌≡◌, ◌+◌, ◌++◌, ◌<◌, ◌^◌, All, IfOk, IsTrue, OnOk, Some, length, slice_get};
 ghost use Rattle.dim_text.specs.Naming.{IsName};
-ghost use Rattle.dim_stack.specs.Names.{HasNamesOf, IsTable, number_of, table_of};
+ghost use Rattle.dim_stack.specs.Names.{HasNamesOf, IsTable, name_number, table_of};
 
 use dim_base::{OutOfMemory, Word};
 use dim_text::is_word;
@@ -75,7 +75,7 @@ impl Names {
 
     /// The number of a name, and None where it is not there.
     pub fn number(&self, w: &Word) -> Option<u32>
-        ensures { result ≡ number_of self.now w.now }
+        ensures { result ≡ name_number self.now w.now }
     {
         match self.table.get_index_of(w) {
             Some(i) => Some(i as u32),
@@ -85,7 +85,7 @@ impl Names {
 
     /// The number of the name that a text spells, and None where it is not there.
     pub fn find(&self, name: &[u8]) -> Option<u32>
-        ensures { result ≡ number_of self.now name.now }
+        ensures { result ≡ name_number self.now name.now }
     {
         let place = self
             .table
@@ -99,7 +99,7 @@ impl Names {
 
     /// What `find` answers, which is fast where the name has the number `guess`.
     pub fn find_with_guess(&self, name: &[u8], guess: u32) -> Option<u32>
-        ensures { result ≡ number_of self.now name.now }
+        ensures { result ≡ name_number self.now name.now }
     {
         if self.has_number(name, guess) {
             return Some(guess);
@@ -109,7 +109,7 @@ impl Names {
 
     // Whether this is the number of the name that a text spells.
     fn has_number(&self, name: &[u8], number: u32) -> bool
-        ensures { IsTrue result → number_of self.now name.now ≡ Some number }
+        ensures { IsTrue result → name_number self.now name.now ≡ Some number }
     {
         number < self.len() && is_word(self.name(number).as_slice(), name)
     }

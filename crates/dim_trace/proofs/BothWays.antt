@@ -1,7 +1,7 @@
 -- The values of words, and the words that spell them.
 use Rattle.std.proofs.Common.{◌≡◌, ◌∷◌, length, drop, Some, sym, ap, ◌∙◌}
 use Rattle.dim_trace.specs.Keywords.{spelling, keyword_of}
-use Rattle.dim_trace.specs.Judging.{first_of, births_of, stack_of, entry_of}
+use Rattle.dim_trace.specs.Judging.{first_of, births_of, stack_of, entry_in_words}
 use Rattle.dim_trace.specs.Laws.{BirthsLaw, StackLaw, EntryLaw}
 use Rattle.dim_trace.proofs.Accepting.{births_of_ok, stack_ok}
 use Rattle.dim_trace.proofs.Moving.{entry_ok}
@@ -24,5 +24,5 @@ entry_both p names program table keyword words e = (
       let same : spelling keyword ∷ words ≡ spelling b.keyword ∷ b.words = h.1 ∙ b.text in
       let found : Some keyword ≡ Some b.keyword = sym (keyword_back keyword) ∙ ap (λ ws. keyword_of (first_of ws)) same ∙ keyword_back b.keyword in
       let is : keyword ≡ b.keyword = cc (found) in
-      ap (λ k. entry_of p names k words) is ∙ ap (entry_of p names b.keyword) (ap (drop 1) same) ∙ b.read,
+      ap (λ k. entry_in_words p names k words) is ∙ ap (entry_in_words p names b.keyword) (ap (drop 1) same) ∙ b.read,
 )

@@ -11,14 +11,14 @@ use Rattle.dim_rag.specs.Shown.{HasStack, shown}
 use Rattle.dim_trace.specs.declared.fault.TraceKind.{TraceKind}
 use Rattle.dim_trace.specs.declared.keyword.Keyword.{Keyword}
 use Rattle.dim_trace.specs.Keywords.{spelling, keyword_of}
-use Rattle.dim_trace.specs.Judging.{entry_of, is_full, with_entry, due_line}
+use Rattle.dim_trace.specs.Judging.{entry_in_words, is_full, with_entry, due_line}
 use Rattle.dim_trace.specs.Value.{TraceValue}
 use Rattle.dim_trace.proofs.Accepting.{Words}
 use Rattle.dim_trace.proofs.Moving.{keyword_ok, entry_ok}
 use Rattle.dim_trace.proofs.Again.{back, entry_words}
 
 spelled : (p : Code) (names : Words) → IsProgram p → IsTable names → (trace : TraceValue) (word : List ℕ) (words : Words) (k : Keyword) (e : Entry)
-    → keyword_of word ≡ Some k → entry_of p names k words ≡ Ok e → is_full trace ≡ false → due_line p names trace (word ∷ words) ≡ Ok (with_entry trace e)
+    → keyword_of word ≡ Some k → entry_in_words p names k words ≡ Ok e → is_full trace ≡ false → due_line p names trace (word ∷ words) ≡ Ok (with_entry trace e)
 spelled p names program table trace word words k e known read room =
     let s = entry_ok p names k words e read in
     let b = back names table p program.lock_names e s.is in
@@ -27,7 +27,7 @@ spelled p names program table trace word words k e known read room =
 
 -- the entry that was read of the words behind a line's keyword
 pub spelled_by : (p : Code) (names : Words) → IsProgram p → IsTable names → (word : List ℕ) (rest words : Words) (k : Keyword) (r : Result EntryRef TraceKind) (found : Option EntryRef) → words ≡ word ∷ rest
-    → keyword_of word ≡ Some k → Gives Some shown r (entry_of p names k rest) → found ≡ result_ok r
+    → keyword_of word ≡ Some k → Gives Some shown r (entry_in_words p names k rest) → found ≡ result_ok r
     → IfSome found (λ e. (trace : TraceValue) → is_full trace ≡ false → due_line p names trace words ≡ Ok (with_entry trace (shown e)))
 spelled_by p names program table word rest words k (Ok e) found line known read is =
     rw (is) (λ trace room. ap (due_line p names trace) line ∙ spelled p names program table trace word rest k (shown e) known read room)

@@ -17,7 +17,7 @@ use Rattle.dim_execution.specs.Start.{gate_of}
 use Rattle.dim_trace.specs.declared.keyword.Keyword.{Keyword}
 use Rattle.dim_trace.specs.Keywords.{spelling}
 use Rattle.dim_trace.specs.Text.{stack_words, words_of_entry, trace_text}
-use Rattle.dim_trace.specs.Judging.{births_of, stack_of, entry_of}
+use Rattle.dim_trace.specs.Judging.{births_of, stack_of, entry_in_words}
 use Rattle.dim_trace.specs.Grammar.{IsBirth, IsStack, IsEntry, HasSet, AreSettings}
 use Rattle.dim_trace.specs.Value.{TraceValue}
 
@@ -37,7 +37,7 @@ StackLaw = (names : List (List ℕ)) → IsTable names
 abbrev pub EntryLaw : Type 0
 EntryLaw = (p : Code) (names : List (List ℕ)) → IsProgram p → IsTable names
     → (keyword : Keyword) (words : List (List ℕ)) (e : Entry)
-    → (entry_of p names keyword words ≡ Ok e)
+    → (entry_in_words p names keyword words ≡ Ok e)
     ↔ (IsEntry p names e × (spelling keyword ∷ words ≡ words_of_entry p names e))
 
 -- entries, oldest first, as a run makes them: no more than a trace has, each set of a Break one,

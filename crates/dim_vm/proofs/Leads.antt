@@ -15,7 +15,7 @@ use Rattle.dim_vm.specs.declared.step.Step.TheVariants as step
 use Rattle.dim_vm.specs.Table.{Next, Plain, Ends, Wants, Retakes, Frees, Tries, next}
 use Rattle.dim_vm.specs.Configuration.{Configuration, next_of, Course, course, course_by, with_course, rested, rested_in, moved, moved_by, led}
 use Rattle.dim_vm.specs.Fitting.{FitsNext, FitsEntry, FitsOwn, MayEnd, OwnWalk, FitsMachine}
-use Rattle.dim_vm.specs.Moves.{Place, MakesPlain}
+use Rattle.dim_vm.specs.Moves.{Whereabouts, MakesPlain}
 use Rattle.dim_vm.specs.Turns.{IsStep}
 
 pub past_more : (own : List Entry) (e : Entry) → past (own ++ e ∷ []) ≡ e ∷ past own
@@ -34,9 +34,9 @@ rested_step p c after running paid e =
     ∙ ap (with_course c) (course_step p c.holds c.units c.context after paid e)
     ∙ ap (rested_in p (record c { units = c.units - 1; context = after })) (sym running)
 
-pub fits_plain : (p : Code) (a b : Place) → FitsMachine p a.at a.own → MakesPlain p a b → FitsMachine p b.at b.own
+pub fits_plain : (p : Code) (a b : Whereabouts) → FitsMachine p a.at a.own → MakesPlain p a b → FitsMachine p b.at b.own
 fits_plain p a b f m =
-    let P : Place → Type 0 = λ x. FitsMachine p x.at x.own in
+    let P : Whereabouts → Type 0 = λ x. FitsMachine p x.at x.own in
     subst P (sym m.after) (record { walk = f.walk; leads = f.leads ∙ rested_step p a.at m.context m.running m.paid m.next })
 
 -- a next thing that isn't plain

@@ -5,7 +5,7 @@ use Rattle.std.specs.Str.{bytes_eq}
 use Rattle.std.proofs.lemmas.Option.{slice_get_within, get_or_from_slice_get}
 use Rattle.std.proofs.lemmas.List.Quantifiers.{position-Some}
 use Rattle.std.proofs.lemmas.List.Sums.{get_or-le-sum_by}
-use Rattle.dim_asm.specs.Code.{Function, func_count, func_name_of, number_of, op_in, op_count}
+use Rattle.dim_asm.specs.Code.{Function, func_count, func_name_of, function_number, op_in, op_count}
 use Rattle.dim_vm.specs.Stacks.{NamedLaw}
 
 short : {X : Type 0} (xs : List X) (i : ℕ) → IsSome (slice_get xs i) → i < length xs
@@ -27,5 +27,5 @@ pub named_law : NamedLaw
 named_law names p frame program bound at =
     let f = with_op (slice_get p.funcs at.func) frame.at at.there in
     let low : at.func < func_count p = slice_get_within p.funcs at.func f.0 f.1 in
-    let number : number_of p at.func < length names = (position-Some (bytes_eq (func_name_of p at.func)) names (number_of p at.func) [] (bound at.func low)).0 in
+    let number : function_number p at.func < length names = (position-Some (bytes_eq (func_name_of p at.func)) names (function_number p at.func) [] (bound at.func low)).0 in
     (omega (arith, number, at.number), omega (arith, f.2, size_within p.funcs at.func f.0 f.1, program.few_ops))

@@ -17,7 +17,7 @@ use Rattle.dim_vm.specs.declared.state.Turn.TheVariants as turn
 use Rattle.dim_vm.specs.Frames.{stack_of}
 use Rattle.dim_vm.specs.Table.{Plain, Ends, Wants}
 use Rattle.dim_vm.specs.Steps.{told_by}
-use Rattle.dim_vm.specs.Door.{Seen, times_in, IsReplyTo, told, grown, IsStop, stops_after, raised, WasStopped}
+use Rattle.dim_vm.specs.Door.{Seen, times_in, IsReplyTo, told, door_after, IsStop, stops_after, raised, WasStopped}
 use Rattle.dim_vm.specs.Configuration.{Configuration, next_of, moved, moved_by, is_ended}
 use Rattle.dim_vm.specs.Fitting.{FitsEntry, FitsOwn, FitsNext, FitsMachine, MayEnd}
 use Rattle.dim_vm.specs.Moves.{MakesPlain, is_end}
@@ -28,7 +28,7 @@ use Rattle.dim_vm.proofs.Asks.{runs, may_end, lacks}
 
 module _ (p : Code) (c : Configuration) (z : Seen) (stopped woken : Type 0) where
   turned_entry : (r : Reply) (e : Entry) → FitsMachine p c z.own → z.thread ≡ c.thread → FitsOwn p c e → is_end e ≡ false → stops_after r z.stops ≡ z.stops
-      → Turned p c z turn.Moved (moved p c e) (grown z r (Some e)) stopped woken
+      → Turned p c z turn.Moved (moved p c e) (door_after z r (Some e)) stopped woken
   turned_entry r e f t m no_end on = record {
     turn_is = inr (record { entry = e; fits = m; no_end = no_end; after = refl });
     fits = fits_entry p c z.own e f m;
@@ -43,7 +43,7 @@ module _ (p : Code) (c : Configuration) (z : Seen) (stopped woken : Type 0) wher
 
   -- the machine has made an entry
   turned_by : (c' : Configuration) (z' : Seen) (r : Reply) (e : Entry) → FitsMachine p c z.own → z.thread ≡ c.thread → FitsOwn p c e → is_end e ≡ false → stops_after r z.stops ≡ z.stops
-      → c' ≡ moved p c e → z' ≡ grown z r (Some e) → Turned p c z turn.Moved c' z' stopped woken
+      → c' ≡ moved p c e → z' ≡ door_after z r (Some e) → Turned p c z turn.Moved c' z' stopped woken
   turned_by c' z' r e f t m no_end on at seen =
       subst (λ x. Turned p c z turn.Moved x z' stopped woken) (sym at) (subst (λ y. Turned p c z turn.Moved (moved p c e) y stopped woken) (sym seen) (turned_entry r e f t m no_end on))
 
@@ -87,7 +87,7 @@ module _ (p : Code) (c : Configuration) (z : Seen) (stopped woken : Type 0) wher
       seen
 
   tries : (l : Lid) (e : Entry) (c' : Configuration) (z' : Seen) (r : Reply) → Faces p c z (step.Tries l) → FitsOwn p c e → is_end e ≡ false → stops_after r z.stops ≡ z.stops
-      → c' ≡ moved_by c e (told_by c.context (step.Tries l) c.context) → z' ≡ grown z r (Some e) → Turned p c z turn.Moved c' z' stopped woken
+      → c' ≡ moved_by c e (told_by c.context (step.Tries l) c.context) → z' ≡ door_after z r (Some e) → Turned p c z turn.Moved c' z' stopped woken
   tries l e c' z' r f m no_end on at seen = turned_by c' z' r e f.fits f.thread m no_end on (at ∙ ap (λ n. moved_by c e n) (sym f.shows.is)) seen
 
   pub turned_try : (l : Lid) (c' : Configuration) (z' : Seen) (r : Reply) → Faces p c z (step.Tries l) → IsReplyTo z (attempt_of p c l) r

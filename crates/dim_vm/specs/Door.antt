@@ -113,13 +113,13 @@ stops_after (reply.Still cause) n = raised n
 stops_after _ n = n
 
 -- what is seen after a reply, with its entry if it makes one
-abbrev pub grown : Seen → Reply → Option Entry → Seen
-grown z r None = record z { last = Some r; stops = stops_after r z.stops }
-grown z r (Some e) = record z { own = z.own ++ e ∷ []; last = Some r; left = z.left - 1; stops = stops_after r z.stops }
+abbrev pub door_after : Seen → Reply → Option Entry → Seen
+door_after z r None = record z { last = Some r; stops = stops_after r z.stops }
+door_after z r (Some e) = record z { own = z.own ++ e ∷ []; last = Some r; left = z.left - 1; stops = stops_after r z.stops }
 
 -- what is seen after the reply to a command
 abbrev pub told : Seen → Command → Reply → Seen
-told z cmd r = grown z r (entry_of z.thread cmd r)
+told z cmd r = door_after z r (entry_of z.thread cmd r)
 
 -- a reply at which a slice stops
 abbrev pub IsStop : Reply → Type 0

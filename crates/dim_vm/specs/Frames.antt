@@ -2,7 +2,7 @@
 use Rattle.std.specs.Prelude.{◌≡◌, ℕ, ◌+◌, ◌<◌, ◌≤◌, nat_lt, if◌then◌else◌, List, [], ◌∷◌, length, map, pos, ℤ, replicate, take, reverse, slice_index_or, slice_set, Result, Ok, Err}
 use Rattle.std.specs.List.{AllByRecursion}
 use Rattle.dim_stack.specs.declared.Frame.{Frame}
-use Rattle.dim_asm.specs.Code.{Code, number_of}
+use Rattle.dim_asm.specs.Code.{Code, function_number}
 use Rattle.dim_vm.specs.declared.trap.Trap.{Trap}
 use Rattle.dim_vm.specs.declared.trap.Trap.TheVariants.{Depth}
 use Rattle.dim_vm.specs.declared.frames.CallFrame.{CallFrame}
@@ -39,7 +39,7 @@ enter f fs = if nat_lt (length fs) 32 then Ok (entered f ∷ fs) else Err Depth
 
 -- the frame of a call
 abbrev pub frame_of : Code → CallFrame → Frame
-frame_of p f = record { func = number_of p f.func; at = f.at }
+frame_of p f = record { func = function_number p f.func; at = f.at }
 
 -- the stack of some calls
 abbrev pub stack_of : Code → List CallFrame → List Frame

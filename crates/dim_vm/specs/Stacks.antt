@@ -1,7 +1,7 @@
 -- The stacks with which threads ask, and where their frames are in a program.
 use Rattle.std.specs.Prelude.{◌≡◌, ℕ, ◌<◌, ◌≤◌, All, IsSome, List, [], length}
 use Rattle.dim_stack.specs.declared.Frame.{Frame}
-use Rattle.dim_asm.specs.Code.{Code, IsProgram, number_of, op_at}
+use Rattle.dim_asm.specs.Code.{Code, IsProgram, function_number, op_at}
 use Rattle.dim_asm.specs.Bound.{IsBound}
 use Rattle.dim_rag.specs.declared.entry.Entry.{Entry}
 use Rattle.dim_rag.specs.declared.entry.Entry.TheVariants.{Go, Yield, Took, Miss}
@@ -19,7 +19,7 @@ stack_with _ = []
 -- offset
 pub record IsAtInstruction (p : Code) (frame : Frame) : Type 0 where
   pub func : ℕ
-  pub number : frame.func ≡ number_of p func
+  pub number : frame.func ≡ function_number p func
   pub there : IsSome (op_at p func frame.at)
 
 -- in a walk each frame of each stack is at an instruction

@@ -17,7 +17,7 @@ use Rattle.dim_vm.specs.Steps.{Shows, IsFound, told_by, paid, gone}
 use Rattle.dim_vm.specs.Configuration.{Configuration, next_of, is_ended, holding}
 use Rattle.dim_vm.specs.Door.{Seen, WasWoken, WasStopped}
 use Rattle.dim_vm.specs.Fitting.{FitsMachine}
-use Rattle.dim_vm.specs.Moves.{Place, Move, Finish}
+use Rattle.dim_vm.specs.Moves.{Whereabouts, Move, Finish}
 use Rattle.dim_vm.specs.Slice.{place}
 
 -- a step has shown what is next, and has paid for it if it is plain
@@ -64,7 +64,7 @@ tried l c reply.Took = record c {
 tried l c _ = record c { units = c.units - 1; state = Running; context = on (pushed (pos 0) c.context) }
 
 -- a turn leads from a to b
-abbrev pub IsTurn : Code → Type 0 → Place → Turn → Place → Type 0
+abbrev pub IsTurn : Code → Type 0 → Whereabouts → Turn → Whereabouts → Type 0
 IsTurn p woken a turn.Moved b = Move p a b
 IsTurn p woken a turn.Over b = Finish p woken a b
 IsTurn p woken a turn.Stopped b = b ≡ a

@@ -6,7 +6,7 @@ use Rattle.dim_words.specs.declared.kind.Setting.TheVariants.{Fuel, Quantum, Dep
 use Rattle.dim_words.specs.Words.{Parted, asked_by, command_by, history_place, nothing, parted}
 use Rattle.dim_words.specs.Kept.{Kept, begun, kept, unmarked}
 use Rattle.dim_words.specs.Grammar.{Found, IsFound, found_in, sub_rows, whole}
-use Rattle.dim_words.specs.Found.{given_value, names_from, taken}
+use Rattle.dim_words.specs.Found.{given_value, names_from, words_taken}
 use Rattle.dim_words.proofs.Items.{Item, are_of, items, keep_items, kept_items, part_items, parted_items, some_is, some≢none}
 use Rattle.dim_words.proofs.Walks.{names_of, rows_of, then_is, wanted_few}
 use Rattle.dim_words.proofs.Level.{counts, finds, first_name, first_option, meets, passes}
@@ -53,7 +53,7 @@ not_found kind words e h not = let k = kept_as kind words e h in go k.0 k.1 k.2 
     go is at all (inr none) = absurd (meets kind is e all (are_of kind words is at) none)
 
 -- and what it finds is what they give
-pub found_gives : (kind : Kind) (words : List Text) (e : Kept) (f : Found) → kept kind words ≡ Some e → IsFound e.words (Some f) → taken f ≡ parted kind words
+pub found_gives : (kind : Kind) (words : List Text) (e : Kept) (f : Found) → kept kind words ≡ Some e → IsFound e.words (Some f) → words_taken f ≡ parted kind words
 found_gives kind words e f h is_found =
     let k = kept_as kind words e h in
     let is : List Item = k.0 in
@@ -63,7 +63,7 @@ found_gives kind words e f h is_found =
     let names : names_from (found_in (rows_of 0 is)) ≡ names_of is =
     (λ i. names_in (first_name is 0 (omega arith) i) (first_name is 1 (omega arith) i) (first_name is 2 (omega arith) i) (first_name is 3 (omega arith) i))
     ∙ restored (names_of is) (omega (arith, same, wanted_few kind)) in
-    sym (ap taken f_is)
+    sym (ap words_taken f_is)
     ∙ (λ i. made (λ t. given_value t (first_option is 0 t i)) (names i))
     ∙ sym (merges is nothing (begun kind) e k.2 agree_start)
     ∙ sym (parted_items kind nothing words ∙ ap (option_and_then (part_items nothing)) k.1)
@@ -76,5 +76,5 @@ pub not_found_in : (kind : Kind) (words : List Text) (e : Kept) (given : List Te
 not_found_in kind words e given o h same none is = not_found kind words e h (subst (λ ws. IsFound ws None) same (subst (λ x. IsFound given x) none is))
 
 pub found_gives_in : (kind : Kind) (words : List Text) (e : Kept) (given : List Text) (o : Option Found) (f : Found) → kept kind words ≡ Some e → given ≡ e.words → o ≡ Some f → IsFound given o
-    → taken f ≡ parted kind words
+    → words_taken f ≡ parted kind words
 found_gives_in kind words e given o f h same some is = found_gives kind words e f h (subst (λ ws. IsFound ws (Some f)) same (subst (λ x. IsFound given x) some is))

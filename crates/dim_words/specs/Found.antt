@@ -35,8 +35,8 @@ taken_with names f = do
   attempts ← given_value Attempts f.attempts
   Some (record { names = names; fuel = fuel; quantum = quantum; depth = depth; seed = seed; workers = workers; attempts = attempts })
 
-abbrev pub taken : Found → Option Parted
-taken f = taken_with (names_from f) f
+abbrev pub words_taken : Found → Option Parted
+words_taken f = taken_with (names_from f) f
 
 abbrev pub asked_line : Line → Option Asked
 asked_line l = asked_by l.kind l.parting

@@ -2,7 +2,7 @@
 ghost use Rattle.std.specs.Prelude.{◌≡◌, ◌∷◌, ◌++◌, Some, None, IfOk, IfSome, OnOk, option_map, option_and_then};
 ghost use Rattle.dim_words.specs.Words.{value_of, asked_by, command_by, command_of, Parted};
 ghost use Rattle.dim_words.specs.Ranges.{IsRanged};
-ghost use Rattle.dim_words.specs.Found.{given_value, taken, taken_with, names_from, one_more, asked_line};
+ghost use Rattle.dim_words.specs.Found.{given_value, words_taken, taken_with, names_from, one_more, asked_line};
 
 use crate::found::{Found, parse};
 use crate::kept::keep;
@@ -101,8 +101,8 @@ fn with_settings(names: Vec<Word>, found: &Found) -> Option<Parting>
 
 // The names and the settings that were found. `None` where a setting's word is no number of its
 // range.
-fn taken(alloc: Global, found: &Found) -> Result<Option<Parting>, OutOfMemory>
-    ensures { IfOk result (λ p. p ≡ taken found.now) }
+fn words_taken(alloc: Global, found: &Found) -> Result<Option<Parting>, OutOfMemory>
+    ensures { IfOk result (λ p. p ≡ words_taken found.now) }
 {
     let names = names(alloc, found)?;
     Ok(with_settings(names, found))
@@ -118,7 +118,7 @@ fn part(alloc: Global, kind: Kind, words: &[Word]) -> Result<Option<Parting>, Ou
     let Some(found) = parse(alloc, kept.words.as_slice())? else {
         return Ok(None);
     };
-    taken(alloc, &found)
+    words_taken(alloc, &found)
 }
 
 /// The command that the words may be, with what it is given.

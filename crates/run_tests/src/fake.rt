@@ -7,7 +7,7 @@ ghost use Rattle.dim_rag.specs.Tables.{thread_of};
 ghost use Rattle.std.proofs.Common.{arith};
 ghost use Rattle.dim_rag.specs.declared.command.Reply.TheVariants as reply;
 ghost use Rattle.dim_rag.specs.declared.entry.Named.{Named};
-ghost use Rattle.dim_vm.specs.Door.{MayAsk, IsReplyTo, IsAcquired, mode_in, times_in, entry_of, grown};
+ghost use Rattle.dim_vm.specs.Door.{MayAsk, IsReplyTo, IsAcquired, mode_in, times_in, entry_of, door_after};
 ghost use Rattle.dim_rag.specs.History.{past, count};
 
 use dim_base::{Lid, OutOfMemory, Tid};
@@ -269,7 +269,7 @@ impl Fake {
     fn note(&mut self, reply: &Reply, entry: Option<Entry>)
         requires room { 1 ≤ self.old.left }
         requires thread { IfSome entry (λ e. thread_of e ≡ Some self.old.thread) }
-        ensures { self.new ≡ grown self.old reply.now entry }
+        ensures { self.new ≡ door_after self.old reply.now entry }
     {
         self.last = Some(*reply);
         self.asks = self.asks.saturating_add(1);

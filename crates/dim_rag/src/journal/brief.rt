@@ -4,7 +4,7 @@ ghost use Rattle.dim_stack.specs.declared.Frame.{Frame};
 ghost use Rattle.dim_rag.specs.Shown.{HasStack, shown};
 ghost use Rattle.dim_rag.specs.Yielded.{is_learn, yielded};
 ghost use Rattle.dim_rag.specs.Span.{IsIn};
-ghost use Rattle.dim_rag.specs.Journal.{IsWithin, stack_of, births_of, brief_of, entry_of};
+ghost use Rattle.dim_rag.specs.Journal.{IsWithin, stack_of, births_of, brief_of, entry_in_full};
 
 use crate::births::Births;
 use crate::entry::{Entry, Why};
@@ -183,7 +183,7 @@ pub fn brief_of(frames: &mut Vec<Frame>, births: &mut Vec<Births>, e: &EntryRef<
 /// The entry that a brief one stands for, by reference.
 pub fn look<'a>(frames: &'a [Frame], births: &'a [Births], brief: &Brief) -> EntryRef<'a>
     requires { IsWithin (length frames.now) (length births.now) brief.now }
-    ensures entry { shown result ≡ entry_of frames.now births.now brief.now }
+    ensures entry { shown result ≡ entry_in_full frames.now births.now brief.now }
     ensures stack { HasStack result }
 {
     match brief {
@@ -245,23 +245,23 @@ pub fn look<'a>(frames: &'a [Frame], births: &'a [Births], brief: &Brief) -> Ent
 }
 
 /// The entry that a brief one stands for.
-pub fn entry_of(frames: &[Frame], births: &[Births], brief: &Brief) -> Entry
+pub fn entry_in_full(frames: &[Frame], births: &[Births], brief: &Brief) -> Entry
     requires { IsWithin (length frames.now) (length births.now) brief.now }
-    ensures { result ≡ entry_of frames.now births.now brief.now }
+    ensures { result ≡ entry_in_full frames.now births.now brief.now }
 {
     look(frames, births, brief).entry()
 }
 
 /// Whether a brief entry stands for a Learn.
 pub fn is_learn(brief: &Brief) -> bool
-    ensures { (fs : List Frame) (bs : List (List ℕ)) → is_learn (entry_of fs bs brief.now) ≡ result }
+    ensures { (fs : List Frame) (bs : List (List ℕ)) → is_learn (entry_in_full fs bs brief.now) ≡ result }
 {
     matches!(brief, Brief::Learnt { .. })
 }
 
 /// The number of the signature that a brief entry names, where it stands for a Yield.
 pub fn yielded(brief: &Brief) -> Option<u32>
-    ensures { (fs : List Frame) (bs : List (List ℕ)) → yielded (entry_of fs bs brief.now) ≡ result }
+    ensures { (fs : List Frame) (bs : List (List ℕ)) → yielded (entry_in_full fs bs brief.now) ≡ result }
 {
     match brief {
         Brief::Yielded { sig, .. } => Some(*sig),

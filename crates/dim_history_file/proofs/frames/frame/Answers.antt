@@ -5,7 +5,7 @@ use Rattle.dim_text.specs.Naming.{IsName}
 use Rattle.dim_text.specs.Numerals.{number_of as number_in}
 use Rattle.dim_text.specs.Reading.{Gives}
 use Rattle.dim_stack.specs.declared.Frame.{Frame}
-use Rattle.dim_stack.specs.Names.{number_of}
+use Rattle.dim_stack.specs.Names.{name_number}
 use Rattle.dim_history_file.specs.declared.fault.FileKind.{FileKind}
 use Rattle.dim_history_file.specs.declared.fault.FileKind.TheVariants.{Name, Number}
 use Rattle.dim_history_file.specs.Value.{named_frame}
@@ -19,7 +19,7 @@ returns-in_err-func-clause-value c =
     let word = c.args.word.now in
     let name = c.in_ok-name.name.now in
     let sides : sides_of word ≡ Some (name, c.in_ok-name.offset.now) = grind (arith, common_steps) in
-    let none : number_of names name ≡ None = grind (arith, common_steps) in
+    let none : name_number names name ≡ None = grind (arith, common_steps) in
     let is : c.from_residual-in_err-func.result ≡ Err Name = grind (arith, common_steps) in
     subst (λ (r : Result Frame FileKind). Gives (λ x. Some x) (named_frame names) r (frame_of word)) (sym is)
     (frame_no_name names word name c.in_ok-name.offset.now c.requires sides none)
@@ -46,5 +46,5 @@ returns-clause-value c =
     let sides : sides_of word ≡ Some (name, offset) = grind (arith, common_steps) in
     let named : IsName name = search rules in
     let at : number_in 65535 offset ≡ Some c.in_ok-at.at = grind (arith, common_steps) in
-    let func : number_of names name ≡ Some c.in_ok-func.func = grind (arith, common_steps) in
+    let func : name_number names name ≡ Some c.in_ok-func.func = grind (arith, common_steps) in
     frame_value names word name offset c.in_ok-at.at c.in_ok-func.func sides named at func

@@ -1,6 +1,6 @@
 use Rattle.std.proofs.Common.{◌≡◌, ◌++◌, ◌∷◌, [], Some, map, ap, ap₂, sym, ◌∙◌}
 use Rattle.std.proofs.lemmas.List.{map_push}
-use Rattle.dim_stack.specs.Names.{number_of}
+use Rattle.dim_stack.specs.Names.{name_number}
 use Rattle.dim_stack.proofs.Exports.{has_contains, contains_has}
 use Rattle.dim_history_file.proofs.Sound.{map_one_more}
 use Rattle.dim_history_file.proofs.Using.{some_number, has_place}
@@ -13,7 +13,7 @@ unwrap-requires c =
 
 pub loop-n-preserved : goal.loop-n-preserved
 loop-n-preserved c =
-    let number = number_of c.args.to.now in
+    let number = name_number c.args.to.now in
     let numbers = c.loop-n.numbers.items in
     let name = c.name.result.now in
     let is : Some c.unwrap.result ≡ number name = sym (sym c.number.ensures ∙ c.unwrap.ensures) in

@@ -6,7 +6,7 @@ use Rattle.dim_text.proofs.Exports.{chosen}
 use Rattle.dim_signature.specs.declared.catalogue.Add.{Add}
 use Rattle.dim_signature.specs.declared.catalogue.Add.TheVariants.{Known}
 use Rattle.dim_signature.specs.Sig.{Sig}
-use Rattle.dim_signature.specs.Catalogue.{Contents, has_stacks, number_of}
+use Rattle.dim_signature.specs.Catalogue.{Contents, has_stacks, signature_number}
 use Rattle.dim_signature.specs.Refusal.{refusal_of}
 use Rattle.dim_signature.specs.Order.{no_sig}
 use Rattle.dim_history_file.specs.declared.fault.FileKind.TheVariants.{Double}
@@ -14,16 +14,16 @@ use Rattle.dim_history_file.proofs.Comparing.{any_at, any_none}
 use Rattle.dim_history_file.proofs.signing.enter.Goals as goal
 
 none_has : (sigs : List Sig) (s : Sig) (n : ℕ) → IfSome (refusal_of sigs s.stacks) (λ e. ◌≡◌ {A = Result ℕ Add} (Ok n) (Err e)) → list_any (has_stacks s.stacks) sigs ≡ false
-none_has sigs s n h = go (number_of sigs s.stacks) refl
+none_has sigs s n h = go (signature_number sigs s.stacks) refl
   where
-    go : (o : Option ℕ) → number_of sigs s.stacks ≡ o → list_any (has_stacks s.stacks) sigs ≡ false
+    go : (o : Option ℕ) → signature_number sigs s.stacks ≡ o → list_any (has_stacks s.stacks) sigs ≡ false
     go None e = any_none (has_stacks s.stacks) sigs e
     go (Some i) e = (let f : ◌≡◌ {A = Result ℕ Add} (Ok n) (Err (Known i)) = rw e at h in cc)
 
 one_has : (sigs : List Sig) (s : Sig) (i : ℕ) → refusal_of sigs s.stacks ≡ Some (Known i) → list_any (has_stacks s.stacks) sigs ≡ true
-one_has sigs s i h = go (number_of sigs s.stacks) refl
+one_has sigs s i h = go (signature_number sigs s.stacks) refl
   where
-    go : (o : Option ℕ) → number_of sigs s.stacks ≡ o → list_any (has_stacks s.stacks) sigs ≡ true
+    go : (o : Option ℕ) → signature_number sigs s.stacks ≡ o → list_any (has_stacks s.stacks) sigs ≡ true
     go None e =
         let f = rw e at h in
         elim (chosen (nat_lt (length sigs) 4096) _ _ _ f) [

@@ -1,6 +1,6 @@
 use Rattle.std.proofs.Common.{◌≡◌, ◌++◌, ◌∷◌, [], List, None, take, sym, ap, ◌∙◌, subst, append_assoc}
 use Rattle.dim_signature.specs.Sig.{Sig}
-use Rattle.dim_signature.specs.Catalogue.{number_of}
+use Rattle.dim_signature.specs.Catalogue.{signature_number}
 use Rattle.dim_history_file.proofs.Sound.{take_one_more}
 use Rattle.dim_merge.proofs.Different.{next_new}
 use Rattle.dim_merge.proofs.parts.add_all.Goals as goal
@@ -8,7 +8,7 @@ use Rattle.dim_merge.proofs.parts.add_all.Goals as goal
 pub add-requires-clause-new : goal.add-requires-clause-new
 add-requires-clause-new c =
     let s = c.get.result.now in
-    subst (λ (ss : List Sig). number_of ss s.stacks ≡ None) (sym c.loop-i.invariant)
+    subst (λ (ss : List Sig). signature_number ss s.stacks ≡ None) (sym c.loop-i.invariant)
     (next_new c.args.catalogue.now.sigs c.args.others.now.sigs c.loop-i.i s c.get.ensures.value c.requires.different)
 
 pub loop-i-preserved : goal.loop-i-preserved

@@ -2,7 +2,7 @@ use Rattle.std.proofs.Common.{◌≡◌, ◌<◌, ◌++◌, ◌∷◌, [], List,
 use Rattle.std.proofs.lemmas.List.{length-take-le}
 use Rattle.std.proofs.lemmas.List.Elements.{filter-append}
 use Rattle.dim_signature.specs.Sig.{Sig}
-use Rattle.dim_signature.specs.Catalogue.{number_of}
+use Rattle.dim_signature.specs.Catalogue.{signature_number}
 use Rattle.dim_history_file.proofs.Sound.{take_one_more}
 use Rattle.dim_merge.specs.Numbered.{is_unknown_to, unknown_to}
 use Rattle.dim_merge.proofs.Counting.{few_kept, new_kept}
@@ -18,7 +18,7 @@ add_unknown-requires-clause-few c =
 pub add_unknown-requires-clause-new : goal.add_unknown-requires-clause-new
 add_unknown-requires-clause-new c =
     let s = c.get.result.now in
-    subst (λ (ss : List Sig). number_of ss s.stacks ≡ None) (sym c.loop-i.invariant)
+    subst (λ (ss : List Sig). signature_number ss s.stacks ≡ None) (sym c.loop-i.invariant)
     (new_kept (is_unknown_to c.args.known.now.sigs) c.args.others.now.sigs c.loop-i.i s c.len-i-end.ensures.catalogue c.get.ensures.value)
 
 pub loop-i-preserved : goal.loop-i-preserved

@@ -7,7 +7,7 @@ use Rattle.dim_rag.specs.declared.entry.Entry.{Entry}
 use Rattle.dim_rag.specs.History.{past}
 use Rattle.dim_rag.specs.Shown.{shown}
 use Rattle.dim_rag.specs.Tables.{Replay}
-use Rattle.dim_gate.specs.Gate.{Gate, constants, grown}
+use Rattle.dim_gate.specs.Gate.{Gate, constants, gate_after}
 use Rattle.dim_gate.specs.Answer.{entry_of, MayGive}
 use Rattle.dim_gate.specs.Legal.{giver_of, command_of}
 use Rattle.dim_trace.proofs.Granting.{may_give, same_asked}
@@ -44,11 +44,11 @@ returns-in-Some-clause-grown c =
     let g = c.args.gate.now in
     let e = shown c.args.e.now in
     c.act_on-reply.ensures.entry
-    ∙ ap (λ (o : Option Entry). grown g o) (same_asked g e c.number_of_caller-caller.result c.command_of-cmd.result (c.number_of_caller-caller.ensures ∙ ap (λ n. giver_of n e) (c.threads.ensures.threads ∙ ap (λ (x : Replay). x.threads) c.graph.ensures.graph)) c.command_of-cmd.ensures)
+    ∙ ap (λ (o : Option Entry). gate_after g o) (same_asked g e c.number_of_caller-caller.result c.command_of-cmd.result (c.number_of_caller-caller.ensures ∙ ap (λ n. giver_of n e) (c.threads.ensures.threads ∙ ap (λ (x : Replay). x.threads) c.graph.ensures.graph)) c.command_of-cmd.ensures)
 
 pub returns-in-None-clause-grown : goal.returns-in-None-clause-grown
 returns-in-None-clause-grown c =
     let g = c.args.gate.now in
     let e = shown c.args.e.now in
     c.act_on-reply.ensures.entry
-    ∙ ap (λ (o : Option Entry). grown g o) (same_asked g e c.number_of_caller-caller.result c.command_of-cmd.result (c.number_of_caller-caller.ensures ∙ ap (λ n. giver_of n e) (c.threads.ensures.threads ∙ ap (λ (x : Replay). x.threads) c.graph.ensures.graph)) c.command_of-cmd.ensures)
+    ∙ ap (λ (o : Option Entry). gate_after g o) (same_asked g e c.number_of_caller-caller.result c.command_of-cmd.result (c.number_of_caller-caller.ensures ∙ ap (λ n. giver_of n e) (c.threads.ensures.threads ∙ ap (λ (x : Replay). x.threads) c.graph.ensures.graph)) c.command_of-cmd.ensures)

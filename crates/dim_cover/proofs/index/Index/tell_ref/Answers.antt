@@ -9,7 +9,7 @@ use Rattle.dim_rag.specs.History.{past}
 use Rattle.dim_rag.specs.Shown.{HasStack, shown}
 use Rattle.dim_rag.specs.Born.{AreByBirth, all_edges, edge_after}
 use Rattle.dim_rag.proofs.Exports.{edges_law as law}
-use Rattle.dim_cover.specs.Change.{changed, ended, granted, taken, without_any, broken_out}
+use Rattle.dim_cover.specs.Change.{changed, ended, granted, edge_taken, without_any, broken_out}
 use Rattle.dim_cover.proofs.Bound.{room_for}
 use Rattle.dim_cover.proofs.Changed.{change_law}
 use Rattle.dim_cover.proofs.Quiet.{shows_quiet}
@@ -30,7 +30,7 @@ returns-in-Took c =
     let b = c.args.before.now in
     let h = past b.entries in
     let law = change_law b.threads b.locks h (shown c.args.e.now) c.len-birth.ensures.fits c.len-birth.ensures.in_range c.requires.in_range c.requires.fits in
-    let new : Option Edge = taken c.in-Took.t c.in-Took.l c.in-Took.stack.now h in
+    let new : Option Edge = edge_taken c.in-Took.t c.in-Took.l c.in-Took.stack.now h in
     let is : all_edges h ++ option_to_list new ≡ changed h (shown c.args.e.now) (all_edges h) =
     subst (λ (e : Entry). all_edges h ++ option_to_list new ≡ changed h e (all_edges h)) (sym (ap shown c.in-Took.is)) refl in
     c.add_taken.ensures ∙ ap (λ (es : List Edge). record { room = c.args.self.now.room; edges = es }) (ap (λ (es : List Edge). es ++ option_to_list new) c.requires.edges ∙ is ∙ sym law)
@@ -81,7 +81,7 @@ pub add_taken-requires-clause-room : goal.add_taken-requires-clause-room
 add_taken-requires-clause-room c =
     let b = c.args.before.now in
     let h = past b.entries in
-    let new : Option Edge = taken c.in-Took.t c.in-Took.l c.in-Took.stack.now h in
+    let new : Option Edge = edge_taken c.in-Took.t c.in-Took.l c.in-Took.stack.now h in
     let room = room_for b.threads b.locks h (shown c.args.e.now) c.len-birth.ensures.fits c.len-birth.ensures.in_range c.requires.in_range c.requires.fits in
     let one : length (all_edges h ++ option_to_list new) ≤ b.threads + b.locks =
     subst (λ (e : Entry). length (all_edges h ++ option_to_list (granted h e)) ≤ b.threads + b.locks) (ap shown c.in-Took.is) room in

@@ -4,7 +4,7 @@ use Rattle.dim_rag.specs.declared.entry.Entry.{Entry}
 use Rattle.dim_rag.specs.History.{past}
 use Rattle.dim_rag.specs.Made.{entry_by}
 use Rattle.dim_rag.specs.Shown.{shown}
-use Rattle.dim_gate.specs.Gate.{Gate, constants, grown}
+use Rattle.dim_gate.specs.Gate.{Gate, constants, gate_after}
 use Rattle.dim_gate.specs.Answer.{reply_of}
 use Rattle.dim_gate.specs.Legal.{IsLegalAfter}
 use Rattle.dim_gate.proofs.Replied.{made_is}
@@ -25,14 +25,14 @@ returns-in-Some-clause-entry c =
     let said : c.decide-reply.result ≡ reply_of (constants c.args.self.now) c.args.caller c.args.cmd.now (past c.args.self.now.entries) =
     subst (λ (x : Gate). c.decide-reply.result ≡ reply_of (constants x) c.args.caller c.args.cmd.now (past x.entries)) c.self.view_is c.decide-reply.ensures in
     let made = made_is (constants c.args.self.now) c.args.caller c.args.cmd.now (past c.args.self.now.entries) c.decide-reply.result (Some (shown c.in-Some.e)) said (sym (ap (option_map shown) c.in-Some.is) ∙ c.by.ensures.entry) in
-    c.enter.ensures ∙ ap (λ (o : Option Entry). grown c.args.self.now o) (sym made)
+    c.enter.ensures ∙ ap (λ (o : Option Entry). gate_after c.args.self.now o) (sym made)
 
 pub returns-in_default-clause-entry : goal.returns-in_default-clause-entry
 returns-in_default-clause-entry c =
     let said : c.decide-reply.result ≡ reply_of (constants c.args.self.now) c.args.caller c.args.cmd.now (past c.args.self.now.entries) =
     subst (λ (x : Gate). c.decide-reply.result ≡ reply_of (constants x) c.args.caller c.args.cmd.now (past x.entries)) c.self.view_is c.decide-reply.ensures in
     let none = made_is (constants c.args.self.now) c.args.caller c.args.cmd.now (past c.args.self.now.entries) c.decide-reply.result None said (sym (ap (option_map shown) c.in_default.is) ∙ c.by.ensures.entry) in
-    ap (λ (o : Option Entry). grown c.args.self.now o) (sym none)
+    ap (λ (o : Option Entry). gate_after c.args.self.now o) (sym none)
 
 pub returns-in-Some-clause-told : goal.returns-in-Some-clause-told
 returns-in-Some-clause-told c =

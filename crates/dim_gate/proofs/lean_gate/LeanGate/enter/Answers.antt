@@ -3,7 +3,7 @@ use Rattle.std.specs.Prelude.{Some, None}
 use Rattle.dim_rag.specs.History.{past}
 use Rattle.dim_rag.specs.Shown.{shown}
 use Rattle.dim_rag.specs.Tables.{Replay}
-use Rattle.dim_gate.specs.Gate.{Gate, gate_at, constants, grown}
+use Rattle.dim_gate.specs.Gate.{Gate, gate_at, constants, gate_after}
 use Rattle.dim_gate.specs.Invariant.{Knows}
 use Rattle.dim_gate.specs.Legal.{IsLegalAfter}
 use Rattle.dim_gate.proofs.Fitting.{fits_after}
@@ -31,4 +31,4 @@ returns c =
     let r : Replay = record i.graph { entries = i.graph.entries ++ e ∷ []; spare = i.graph.spare - 1 } in
     ap (λ (x : Replay). gate_at x c.take_in.new.self None) c.enter_ref.ensures
     ∙ c.take_in.ensures.same r None
-    ∙ ap (λ (x : Gate). grown x (Some e)) c.self.view_is
+    ∙ ap (λ (x : Gate). gate_after x (Some e)) c.self.view_is

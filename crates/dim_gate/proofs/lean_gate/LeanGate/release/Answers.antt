@@ -4,7 +4,7 @@ use Rattle.dim_rag.specs.declared.command.Command.TheVariants.{Release}
 use Rattle.dim_rag.specs.declared.entry.Entry.{Entry}
 use Rattle.dim_rag.specs.declared.entry.Entry.TheVariants.{Free}
 use Rattle.dim_rag.specs.History.{past}
-use Rattle.dim_gate.specs.Gate.{Gate, constants, grown}
+use Rattle.dim_gate.specs.Gate.{Gate, constants, gate_after}
 use Rattle.dim_gate.specs.Answer.{entry_of, reply_of}
 use Rattle.dim_gate.proofs.Polls.{if_so, freed, so, nothing, never, always}
 use Rattle.dim_gate.proofs.lean_gate.LeanGate.release.Goals as goal
@@ -17,7 +17,7 @@ returns-then-not-is_freed-clause-made c =
 
 pub returns-then-not-is_freed-clause-entry : goal.returns-then-not-is_freed-clause-entry
 returns-then-not-is_freed-clause-entry c =
-    ap (λ (o : Option Entry). grown c.args.self.now o)
+    ap (λ (o : Option Entry). gate_after c.args.self.now o)
     (sym (nothing (entry_of (constants c.args.self.now) c.args.t.0 (Release c.args.l) (past c.args.self.now.entries)) (Free c.args.t c.args.l) c.is_freed.result
     (freed (constants c.args.self.now) c.args.t c.args.l (past c.args.self.now.entries) c.release.result (subst (λ (x : Gate). c.release.result ≡ reply_of (constants x) c.args.t.0 (Release c.args.l) (past x.entries)) c.self.view_is c.release.ensures) ∙ ap (if_so (Free c.args.t c.args.l)) (sym c.is_freed.ensures))
     c.if-not-is_freed.true))
@@ -38,7 +38,7 @@ returns-clause-made c =
 
 pub returns-clause-entry : goal.returns-clause-entry
 returns-clause-entry c =
-    c.enter.ensures ∙ ap (λ (o : Option Entry). grown c.args.self.now o)
+    c.enter.ensures ∙ ap (λ (o : Option Entry). gate_after c.args.self.now o)
     (sym (so (entry_of (constants c.args.self.now) c.args.t.0 (Release c.args.l) (past c.args.self.now.entries)) (Free c.args.t c.args.l) c.is_freed.result
     (freed (constants c.args.self.now) c.args.t c.args.l (past c.args.self.now.entries) c.release.result (subst (λ (x : Gate). c.release.result ≡ reply_of (constants x) c.args.t.0 (Release c.args.l) (past x.entries)) c.self.view_is c.release.ensures) ∙ ap (if_so (Free c.args.t c.args.l)) (sym c.is_freed.ensures))
     c.if-not-is_freed.false))
