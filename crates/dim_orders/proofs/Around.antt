@@ -1,12 +1,12 @@
 -- Around a cycle all locks are in one part.
-use Rattle.std.proofs.Common.{◌≡◌, ◌⊎◌, inl, inr, ℕ, ◌≤◌, ◌==◌, Bool, true, false, List, [], ◌∷◌, sym, ap, subst, ◌∙◌, arith, eqb-true, eq-eqb, leb-true, ◌||◌}
+use Rattle.std.proofs.Common.{◌≡◌, inl, inr, ℕ, ◌≤◌, ◌==◌, true, false, List, [], ◌∷◌, ap, subst, ◌∙◌, arith, eqb-true, eq-eqb, leb-true}
 use Rattle.std.specs.Prelude.{nat_le}
 use Rattle.std.specs.List.{list_any, list_all, AllByRecursion}
 use Rattle.std.proofs.lemmas.Bool.{or_cases, and_parts, or_left, or_right}
 use Rattle.dim_orders.specs.declared.hold.Hold.{Hold}
 use Rattle.dim_orders.specs.Holding.{holds}
 use Rattle.dim_orders.specs.Nestings.{Nesting, part, is_down, crosses}
-use Rattle.dim_orders.specs.Cycles.{Wait, WaitsFor, Leads, IsCycle}
+use Rattle.dim_orders.specs.Cycles.{Wait, Leads, IsCycle}
 
 below_all : (parts : List ℕ) (x l : ℕ) (hs : List Hold) → list_all (λ h. nat_le x (part parts h.lock)) hs ≡ true → holds hs l ≡ true → x ≤ part parts l
 below_all parts x l [] all among = absurd (let e : false ≡ true = among in cc)

@@ -1,14 +1,14 @@
 -- Sections have the nestings of their thread, and each ends with nothing held.
-use Rattle.std.proofs.Common.{◌≡◌, ◌⊎◌, inl, inr, ℕ, ◌==◌, Bool, true, false, cond, if◌then◌else◌, List, [], ◌∷◌, ◌++◌, length, refl, sym, ap, subst, ◌∙◌, arith, eqb-true, eq-eqb, ◌&&◌, not}
+use Rattle.std.proofs.Common.{◌≡◌, ◌⊎◌, inl, inr, ℕ, ◌==◌, Bool, true, false, List, [], ◌∷◌, ◌++◌, length, refl, sym, ap, subst, ◌∙◌, eqb-true}
 use Rattle.std.specs.List.{flat_map, AllByRecursion}
 use Rattle.std.proofs.lemmas.Bool.{cases_Bool}
-use Rattle.std.proofs.lemmas.List.{append_assoc, append-nil, nil_from_length}
+use Rattle.std.proofs.lemmas.List.{append-nil, nil_from_length}
 use Rattle.dim_orders.specs.declared.hold.Hold.{Hold}
 use Rattle.dim_orders.specs.declared.kept.Deed.{Deed}
 use Rattle.dim_orders.specs.declared.kept.Deed.TheVariants as deed
 use Rattle.dim_orders.specs.declared.kept.Operation.{Operation}
-use Rattle.dim_orders.specs.Holding.{holds, let_go, held_by, held_after, held_from}
-use Rattle.dim_orders.specs.Nestings.{Nesting, asked, is_lock, nesting, nestings_from, nestings, waits}
+use Rattle.dim_orders.specs.Holding.{held_by, held_after, held_from}
+use Rattle.dim_orders.specs.Nestings.{Nesting, asked, is_lock, nestings_from, nestings}
 use Rattle.dim_orders.specs.Sections.{closing, ended, found_by, is_found, last_stack, sections_from, sections}
 use Rattle.dim_orders.proofs.HoldLemmas.{let_go_none}
 use Rattle.dim_orders.proofs.Members.{In, in_left, in_right, in_either}

@@ -1,5 +1,5 @@
 -- What is kept, put together.
-use Rattle.std.proofs.Common.{◌≡◌, ℕ, zero, suc, Bool, true, List, [], ◌∷◌, map, get_or, refl, sym, ap, subst, ◌∙◌}
+use Rattle.std.proofs.Common.{◌≡◌, ℕ, zero, suc, true, List, [], ◌∷◌, map, get_or, refl, sym, ap, subst, ◌∙◌}
 use Rattle.std.specs.Prelude.{Vec}
 use Rattle.std.specs.declared.alloc.Global.{Global}
 use Rattle.std.specs.List.{All, AllByRecursion, filter}
@@ -11,7 +11,7 @@ use Rattle.dim_orders.specs.Nestings.{are_down}
 use Rattle.dim_orders.specs.Sections.{sections}
 use Rattle.dim_orders.specs.Crossing.{kept_from}
 use Rattle.dim_orders.specs.Lines.{AreOnce, IsLine}
-use Rattle.dim_orders.specs.Kept.{AreKept, Line, has_any, kept_of, line_by, line_of}
+use Rattle.dim_orders.specs.Kept.{AreKept, Line, has_any, kept_of, line_by}
 
 map_at : {X Y : Type 0} (g : List X → List Y) → g [] ≡ [] → (vs : List (Vec X Global)) (t : ℕ) → get_or (map (λ v. g v.items) vs) t [] ≡ g (row vs t)
 map_at g e [] t = sym e

@@ -1,20 +1,18 @@
 -- Each crossing nesting of a thread stands among what is kept of it.
-use Rattle.std.proofs.Common.{◌≡◌, ◌⊎◌, inl, inr, ℕ, zero, suc, ◌==◌, ◌<◌, ◌≤◌, eqb-true, ne_eqb, Bool, true, false, not, cond, if◌then◌else◌, List, [], ◌∷◌, ◌++◌, Some, slice_get, length, map, refl, sym, ap, subst, ◌∙◌, arith}
-use Rattle.std.specs.List.{All, AllByRecursion, Contains, filter, flat_map, list_all}
+use Rattle.std.proofs.Common.{◌≡◌, ◌⊎◌, inl, inr, ℕ, suc, ◌==◌, eqb-true, ne_eqb, Bool, true, false, not, if◌then◌else◌, List, [], ◌∷◌, ◌++◌, Some, slice_get, length, map, refl, sym, ap, subst, ◌∙◌, arith}
+use Rattle.std.specs.List.{AllByRecursion, filter, flat_map, list_all}
 use Rattle.std.proofs.lemmas.Bool.{and_parts, cases_Bool, not_from_false, or_cases}
 use Rattle.std.proofs.lemmas.List.Elements.{All-from_recursion, recursion_from_All}
 use Rattle.dim_log.specs.declared.log.Event.{Event}
-use Rattle.dim_orders.specs.declared.hold.Hold.{Hold}
 use Rattle.dim_orders.specs.declared.kept.Operation.{Operation}
-use Rattle.dim_orders.specs.Holding.{held_from}
-use Rattle.dim_orders.specs.Own.{as_list, deed_of, doer, own, own_of}
+use Rattle.dim_orders.specs.Own.{doer, own, own_of}
 use Rattle.dim_orders.specs.Nestings.{Nesting, are_down, crosses, is_down, nestings}
 use Rattle.dim_orders.specs.Sections.{sections}
 use Rattle.dim_orders.specs.Crossing.{crossings, has_new, is_among, kept_from}
 use Rattle.dim_orders.specs.Lines.{AreOnce, times}
-use Rattle.dim_orders.specs.Cycles.{Wait, IsCycle, IsOf}
+use Rattle.dim_orders.specs.Cycles.{Wait, IsOf}
 use Rattle.dim_orders.specs.Kept.{AreKept, CyclesLaw, Line, Stands, has_any, kept_of, line_of}
-use Rattle.dim_orders.proofs.Members.{In, contains_from_in, each_in, from_flat, in_either, in_filter, in_filtered, in_flat, in_from_contains, in_from_count, in_left, in_right}
+use Rattle.dim_orders.proofs.Members.{In, contains_from_in, from_flat, in_either, in_filter, in_filtered, in_flat, in_from_contains, in_from_count, in_left, in_right}
 use Rattle.dim_orders.proofs.Replays.{closed-append, nestings-append}
 use Rattle.dim_orders.proofs.Cutting.{Closed, all_closed, have_all}
 use Rattle.dim_orders.proofs.Keys.{among_append, among_in, not_new}

@@ -1,5 +1,5 @@
 -- Nestings by places of the log.
-use Rattle.std.proofs.Common.{◌≡◌, ◌⊎◌, inl, inr, ℕ, zero, suc, ◌==◌, ◌&&◌, Bool, true, false, not, cond, if◌then◌else◌, List, [], ◌∷◌, ◌++◌, Option, Some, None, slice_get, take, refl, sym, ap, subst, ◌∙◌, eqb-true, eq-eqb}
+use Rattle.std.proofs.Common.{◌≡◌, inl, inr, ℕ, zero, suc, ◌==◌, Bool, true, false, if◌then◌else◌, List, [], ◌∷◌, ◌++◌, Some, slice_get, take, refl, sym, ap, subst, ◌∙◌, eqb-true, eq-eqb}
 use Rattle.std.proofs.lemmas.Bool.{cases_Bool, not-true}
 use Rattle.std.proofs.lemmas.Option.{none-some, same_Some}
 use Rattle.dim_log.specs.declared.log.Event.{Event}
@@ -10,7 +10,7 @@ use Rattle.dim_orders.specs.declared.kept.Operation.{Operation}
 use Rattle.dim_orders.specs.Holding.{held_from, holds}
 use Rattle.dim_orders.specs.Own.{own, own_of}
 use Rattle.dim_orders.specs.Nestings.{Nesting, asked, nesting, nestings, nestings_from, waits}
-use Rattle.dim_orders.specs.Cycles.{IsOf, NestsAt, PlacesLaw, Wait}
+use Rattle.dim_orders.specs.Cycles.{PlacesLaw}
 use Rattle.dim_orders.proofs.Members.{In, contains_from_in, in_either, in_from_contains, in_left, in_right}
 use Rattle.dim_orders.proofs.Replays.{held_from-append, nestings_from-append}
 

@@ -1,5 +1,5 @@
 -- What is kept of a log.
-use Rattle.std.specs.Prelude.{◌≡◌, ℕ, ◌==◌, Bool, not, true, List, [], ◌∷◌, All, Contains, map, length}
+use Rattle.std.specs.Prelude.{◌≡◌, ℕ, ◌==◌, Bool, not, true, List, [], All, Contains, map, length}
 use Rattle.std.specs.List.{filter, flat_map}
 use Rattle.dim_log.specs.declared.log.Event.{Event}
 use Rattle.dim_orders.specs.declared.kept.Chain.{Chain}

@@ -1,6 +1,6 @@
 -- Where a thread takes a lock while it holds others.
 use Rattle.std.specs.Prelude.{ℕ, ◌==◌, nat_le, Bool, true, false, ◌&&◌, not, if◌then◌else◌, List, [], ◌∷◌, ◌++◌, slice_index}
-use Rattle.std.specs.List.{filter, flat_map, list_any, list_all}
+use Rattle.std.specs.List.{list_any, list_all}
 use Rattle.dim_orders.specs.declared.hold.Hold.{Hold}
 use Rattle.dim_orders.specs.declared.kept.Deed.{Deed}
 use Rattle.dim_orders.specs.declared.kept.Deed.TheVariants as deed

@@ -1,5 +1,5 @@
 -- The operations of one thread of a log.
-use Rattle.std.specs.Prelude.{ℕ, ◌==◌, ◌<◌, Bool, true, false, if◌then◌else◌, List, [], ◌∷◌, Option, Some, None, All, map, slice_index_or, Vec}
+use Rattle.std.specs.Prelude.{ℕ, ◌==◌, ◌<◌, if◌then◌else◌, List, [], ◌∷◌, Option, Some, None, map, slice_index_or, Vec}
 use Rattle.std.specs.List.{flat_map}
 use Rattle.std.specs.declared.alloc.Global.{Global}
 use Rattle.dim_log.specs.declared.log.Event.{Event}

@@ -1,5 +1,5 @@
 -- Threads that are put into lines, event by event.
-use Rattle.std.specs.Prelude.{◌≡◌, ◌≢◌, ℕ, ◌+◌, ◌-◌, ◌<◌, ◌≤◌, Bool, true, if◌then◌else◌, List, [], Option, Some, None, All, Contains, length, slice_get, slice_index, slice_index_or}
+use Rattle.std.specs.Prelude.{◌≡◌, ◌≢◌, ℕ, ◌-◌, ◌<◌, Bool, true, if◌then◌else◌, List, [], Option, Some, None, All, Contains, length, slice_get, slice_index, slice_index_or}
 use Rattle.std.specs.Option.{is_some}
 use Rattle.dim_log.specs.declared.log.Event.{Event}
 use Rattle.dim_log.specs.declared.log.Event.TheVariants.{Join}

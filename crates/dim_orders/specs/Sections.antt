@@ -1,5 +1,5 @@
 -- The sections of a thread: from where it holds nothing to where it holds nothing again.
-use Rattle.std.specs.Prelude.{◌≡◌, ℕ, All, ◌==◌, ◌-◌, Bool, true, false, if◌then◌else◌, List, [], ◌∷◌, ◌++◌, Option, Some, None, map, reverse, length, slice_get}
+use Rattle.std.specs.Prelude.{◌≡◌, ℕ, All, ◌==◌, ◌-◌, Bool, true, if◌then◌else◌, List, [], ◌∷◌, ◌++◌, Option, Some, None, map, reverse, length, slice_get}
 use Rattle.std.specs.List.{flat_map}
 use Rattle.dim_orders.specs.declared.hold.Hold.{Hold}
 use Rattle.dim_orders.specs.declared.kept.Deed.{Deed}

@@ -1,5 +1,5 @@
 -- How many marks there are.
-use Rattle.std.proofs.Common.{◌≡◌, refl, ◌+◌, ◌∙◌, arith, List, [], ◌∷◌, length}
+use Rattle.std.proofs.Common.{◌≡◌, refl, ◌∙◌, arith, List, [], ◌∷◌, length}
 use Rattle.std.proofs.lemmas.List.{length_push}
 use Rattle.dim_rag.specs.declared.entry.Entry.{Entry}
 use Rattle.dim_picture.specs.Marks.{mark_of, marks}

@@ -1,9 +1,9 @@
 -- The shapes of entries, by places.
-use Rattle.std.proofs.Common.{◌≡◌, ℕ, zero, suc, ◌+◌, ◌-◌, ◌<◌, ◌≤◌, refl, ap, sym, ◌∙◌, subst, arith, Bool, true, false, inl, inr, List, [], ◌∷◌, ◌++◌, length, drop, reverse, append_assoc, append-nil}
-use Rattle.std.specs.Prelude.{Option, Some, None, slice_get, unwrap_or, if◌then◌else◌}
+use Rattle.std.proofs.Common.{◌≡◌, ℕ, zero, suc, ◌+◌, ◌-◌, ◌<◌, ◌≤◌, refl, ap, sym, ◌∙◌, subst, arith, true, false, inl, inr, List, [], ◌∷◌, ◌++◌, length, drop, reverse, append_assoc, append-nil}
+use Rattle.std.specs.Prelude.{Option, Some, slice_get, unwrap_or}
 use Rattle.std.proofs.lemmas.Bool.{cases_Bool}
-use Rattle.std.proofs.lemmas.List.{length-append, length-reverse, length_push}
-use Rattle.std.proofs.lemmas.Option.{slice_get_within, slice_get_past}
+use Rattle.std.proofs.lemmas.List.{length-reverse, length_push}
+use Rattle.std.proofs.lemmas.Option.{slice_get_within}
 use Rattle.dim_rag.specs.declared.entry.Entry.{Entry}
 use Rattle.dim_rag.specs.History.{past}
 use Rattle.dim_rag.specs.Places.{before}
@@ -11,7 +11,7 @@ use Rattle.dim_picture.specs.declared.mark.Mark.{Mark}
 use Rattle.dim_picture.specs.declared.rows.Slot.{Slot}
 use Rattle.dim_picture.specs.declared.shape.Shape.{Shape}
 use Rattle.dim_picture.specs.Marks.{mark_of, marks}
-use Rattle.dim_picture.specs.Shapes.{closes, end_from, shape_of, shapes_from, shapes_of, slots_after, seat_of}
+use Rattle.dim_picture.specs.Shapes.{closes, end_from, shape_of, shapes_from, slots_after, seat_of}
 use Rattle.dim_picture.specs.Places.{IsMarkAt, IsEnd, IsShapeAt, AreShapes, ShapesLaw}
 use Rattle.dim_picture.proofs.Noted.{marks_length}
 use Rattle.dim_picture.proofs.ShapeSteps.{shapes}

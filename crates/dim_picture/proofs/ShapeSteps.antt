@@ -1,5 +1,5 @@
 -- The shapes of marks, one by one.
-use Rattle.std.proofs.Common.{◌≡◌, ℕ, ◌+◌, ◌≤◌, refl, ap, sym, ◌∙◌, subst, arith, List, [], ◌∷◌, ◌++◌, length, drop}
+use Rattle.std.proofs.Common.{◌≡◌, ℕ, ◌+◌, ◌≤◌, refl, ap, sym, ◌∙◌, arith, List, [], ◌∷◌, ◌++◌, length, drop}
 use Rattle.std.proofs.lemmas.List.{length_push}
 use Rattle.dim_picture.specs.declared.mark.Mark.{Mark}
 use Rattle.dim_picture.specs.declared.rows.Seat.{Seat}

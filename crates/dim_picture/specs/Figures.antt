@@ -1,5 +1,5 @@
 -- What is drawn of each mark.
-use Rattle.std.specs.Prelude.{ℕ, ◌+◌, ◌-◌, ◌/◌, ◌%◌, ◌==◌, nat_lt, nat_le, Bool, true, false, ◌&&◌, if◌then◌else◌, List, [], ◌∷◌, ◌++◌, length, slice_get, Option, Some, None, codes}
+use Rattle.std.specs.Prelude.{ℕ, ◌+◌, ◌-◌, ◌/◌, ◌%◌, ◌==◌, nat_lt, nat_le, Bool, if◌then◌else◌, List, [], ◌++◌, length, slice_get, Option, Some, None, codes}
 use Rattle.std.specs.Fmt.{decimal}
 use Rattle.std.specs.List.{flat_map}
 use Rattle.dim_base.specs.declared.Tid.{Tid}
@@ -14,7 +14,7 @@ use Rattle.dim_picture.specs.Value.{FrameValue}
 use Rattle.dim_picture.specs.declared.mark.Mark.{Mark}
 use Rattle.dim_picture.specs.declared.mark.Mark.TheVariants.{Wait, Yield, Hold, Deeper, Inner, Free, Miss, End, Break, Learn}
 use Rattle.dim_picture.specs.declared.rows.Seat.{Seat}
-use Rattle.dim_picture.specs.declared.rows.Seat.TheVariants.{Own, Beside, Nowhere}
+use Rattle.dim_picture.specs.declared.rows.Seat.TheVariants.{Own}
 use Rattle.dim_picture.specs.declared.shape.Shape.{Shape}
 use Rattle.dim_picture.specs.Elements.{rect, opening, words, named, line, circle, sign}
 use Rattle.dim_picture.specs.Frames.{x_of, y_of}

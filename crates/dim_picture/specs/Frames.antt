@@ -2,9 +2,8 @@
 use Rattle.std.specs.Prelude.{ℕ, zero, suc, ◌+◌, ◌-◌, ◌*◌, ◌==◌, min, max, nat_le, nat_lt, Bool, ◌&&◌, if◌then◌else◌, List, [], ◌∷◌, ◌++◌, slice_get, Option, Some, None}
 use Rattle.dim_base.specs.declared.Tid.{Tid}
 use Rattle.dim_picture.specs.Value.{FrameValue}
-use Rattle.dim_picture.specs.declared.mark.Mark.{Mark}
 use Rattle.dim_picture.specs.declared.rows.Seat.{Seat}
-use Rattle.dim_picture.specs.declared.rows.Seat.TheVariants.{Own, Beside, Nowhere}
+use Rattle.dim_picture.specs.declared.rows.Seat.TheVariants.{Own}
 use Rattle.dim_picture.specs.declared.shape.Shape.{Shape}
 use Rattle.dim_picture.specs.Shapes.{seat_of}
 

@@ -2,8 +2,6 @@
 use Rattle.std.specs.Prelude.{ℕ, zero, suc, ◌+◌, ◌-◌, ◌*◌, ◌/◌, ◌%◌, ◌==◌, nat_le, Bool, ◌||◌, if◌then◌else◌, List, [], ◌++◌, length, slice_get, Option, Some, None, codes}
 use Rattle.std.specs.Fmt.{decimal}
 use Rattle.dim_asm.specs.Code.{Code, thread_count, lock_count, start_of, func_name_of}
-use Rattle.dim_base.specs.declared.Tid.{Tid}
-use Rattle.dim_base.specs.declared.Lid.{Lid}
 use Rattle.dim_rag.specs.declared.entry.Entry.{Entry}
 use Rattle.dim_run.specs.declared.playing.Outcome.{Outcome}
 use Rattle.dim_run.specs.declared.playing.Outcome.TheVariants.{Finished, Deadlocked, Stalled}

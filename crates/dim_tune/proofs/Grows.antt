@@ -1,5 +1,5 @@
 -- No attempt loses a signature, and each run learns what its Learns say.
-use Rattle.std.proofs.Common.{◌≡◌, ℕ, zero, suc, ◌+◌, ◌≤◌, refl, ap, ap₂, sym, ◌∙◌, arith, List, [], ◌∷◌, ◌++◌, length, map}
+use Rattle.std.proofs.Common.{◌≡◌, ℕ, zero, suc, ◌+◌, ◌≤◌, refl, ap, ap₂, sym, ◌∙◌, arith, List, [], ◌∷◌, length, map}
 use mathlib.Core.List.{IsPrefix}
 use Rattle.std.specs.Prelude.{Option, Some, None, min, option_map, slice_get}
 use Rattle.std.proofs.lemmas.Option.{none-some, same_Some}

@@ -1,9 +1,7 @@
 -- Attempts while they are made.
-use Rattle.std.specs.Prelude.{◌≡◌, ℕ, suc, ◌<◌, ◌≤◌, List, [], ◌∷◌, ◌++◌, length}
+use Rattle.std.specs.Prelude.{◌≡◌, ℕ, suc, ◌<◌, List, [], ◌∷◌, ◌++◌, length}
 use Rattle.dim_asm.specs.Code.{Code}
-use Rattle.dim_rag.specs.declared.entry.Entry.{Entry}
 use Rattle.dim_signature.specs.Sig.{Sig}
-use Rattle.dim_signature.specs.Catalogue.{IsCatalogue}
 use Rattle.dim_history_file.specs.Grammar.{AreNear}
 use Rattle.dim_run.specs.declared.settings.Settings.{Settings}
 use Rattle.dim_tune.specs.declared.attempt.KeptImmunized.{KeptImmunized}

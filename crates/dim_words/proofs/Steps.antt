@@ -6,7 +6,7 @@ use Rattle.clap.specs.Words.{Row, Rule, Text, Shape}
 use Rattle.clap.specs.Lexer.{long_of, short_of, usize_max}
 use Rattle.clap.specs.Simple.{filled, with_index}
 use Rattle.clap.specs.Kinds.{or_else}
-use Rattle.clap.specs.Walk.{Held, Waiting, Walk, after_flag, after_step, arg_by_id, arg_by_index, arg_by_long, at_row, has_row, idle, is_pending, long_met, long_or_other, more_values, next, option, option_word as option_takes, plain_word, pushed, reading_by, settled, settled_rows, short_or_plain, subcommand_met, subcommand_or_other, to_positional, trailing, used, value, walked, with_values, without, word_met}
+use Rattle.clap.specs.Walk.{Held, Waiting, Walk, after_flag, after_step, arg_by_id, arg_by_index, arg_by_long, at_row, has_row, idle, is_pending, long_met, long_or_other, more_values, next, option, option_word as option_takes, plain_word, pushed, reading_by, settled, settled_rows, short_or_plain, subcommand_met, subcommand_or_other, to_positional, trailing, used, walked, with_values, without, word_met}
 use Rattle.clap.specs.Faults.{flag_word_fault, long_fault, other_fault, positional_fault, settle_fault, step_fault, stray_fault, turn_fault, use_fault, word_fault, bundle_fault}
 use Rattle.clap.specs.declared.parser.matches.ValueSource.TheVariants.{CommandLine}
 use Rattle.clap.specs.declared.error.kind.ErrorKind.TheVariants.{ArgumentConflict}

@@ -1,5 +1,4 @@
 use Rattle.std.proofs.Common.{◌≡◌, ap, ◌∙◌, rules}
-use Rattle.std.specs.String.{string_bytes}
 use Rattle.dim_asm.specs.Spelling.{source_text}
 use Rattle.dim_run.specs.Schedule.{generator}
 use Rattle.dim_generate.specs.Drafted.{generated_source}

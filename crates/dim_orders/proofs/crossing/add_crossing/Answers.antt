@@ -1,5 +1,4 @@
-use Rattle.std.proofs.Common.{◌≡◌, true, sym, subst, ◌∙◌, arith, filter, List}
-use Rattle.std.proofs.lemmas.Grind.{common_steps}
+use Rattle.std.proofs.Common.{◌≡◌, true, sym, subst, ◌∙◌, List}
 use Rattle.dim_orders.specs.Nestings.{Nesting, crosses, nesting, waits}
 use Rattle.dim_orders.specs.Crossing.{Adds}
 use Rattle.dim_orders.proofs.Keys.{adds_one, asked_crossing}

@@ -1,4 +1,4 @@
-use Rattle.std.proofs.Common.{List, filter, subst, ◌≡◌, ◌+◌, ◌||◌, drop, get_or, sym, ◌∙◌, arith, length}
+use Rattle.std.proofs.Common.{List, filter, subst, ◌≡◌, ◌+◌, ◌||◌, drop, get_or, sym, ◌∙◌}
 use Rattle.std.proofs.lemmas.Bool.{or_right}
 use Rattle.std.proofs.lemmas.List.{drop_more, drop_all}
 use Rattle.dim_orders.specs.declared.hold.Hold.{Hold}

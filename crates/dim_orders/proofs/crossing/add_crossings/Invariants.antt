@@ -1,4 +1,4 @@
-use Rattle.std.proofs.Common.{◌≡◌, ◌++◌, [], List, drop}
+use Rattle.std.proofs.Common.{◌≡◌, ◌++◌, List, drop}
 use Rattle.std.specs.List.{filter}
 use Rattle.dim_orders.specs.Nestings.{Nesting, crosses, nestings_from}
 use Rattle.dim_orders.specs.Crossing.{Adds, crossings}

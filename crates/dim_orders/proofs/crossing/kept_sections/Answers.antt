@@ -1,4 +1,4 @@
-use Rattle.std.proofs.Common.{◌≡◌, ◌+◌, ◌++◌, [], List, ◌∷◌, drop, map, sym, ap, ◌∙◌, arith, if◌then◌else◌}
+use Rattle.std.proofs.Common.{◌≡◌, ◌+◌, ◌++◌, [], List, ◌∷◌, drop, map, sym, ap, ◌∙◌, if◌then◌else◌}
 use Rattle.std.proofs.lemmas.List.{append-nil, drop_more}
 use Rattle.dim_orders.specs.declared.kept.Operation.{Operation}
 use Rattle.dim_orders.specs.Crossing.{kept_from}

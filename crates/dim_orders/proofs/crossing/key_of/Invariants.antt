@@ -1,4 +1,4 @@
-use Rattle.std.proofs.Common.{◌≡◌, ◌∷◌, [], ◌++◌, take}
+use Rattle.std.proofs.Common.{◌≡◌, ◌∷◌, [], take}
 use Rattle.std.specs.List.{flat_map}
 use Rattle.dim_orders.proofs.crossing.key_of.Given as goal
 

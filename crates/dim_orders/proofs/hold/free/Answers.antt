@@ -1,4 +1,4 @@
-use Rattle.std.proofs.Common.{◌≡◌, ℕ, ◌-◌, suc, false, drop, length, sym, ap, subst, ◌∙◌, arith, eq-eqb}
+use Rattle.std.proofs.Common.{◌≡◌, ℕ, ◌-◌, suc, false, drop, sym, ap, subst, ◌∙◌, arith, eq-eqb}
 use Rattle.dim_orders.specs.declared.hold.Hold.{Hold}
 use Rattle.dim_orders.specs.Holding.{holds, let_go}
 use Rattle.dim_orders.proofs.HoldLemmas.{let_go_none, let_go_at}

@@ -1,5 +1,5 @@
 use Rattle.std.proofs.Common.{◌≡◌, length, map}
-use Rattle.dim_orders.specs.Placing.{AreLasts, ArePlaced}
+use Rattle.dim_orders.specs.Placing.{ArePlaced}
 use Rattle.dim_orders.proofs.lines.lines_of.Given as goal
 
 abbrev pub invariant-loop-i : goal.invariant-loop-i

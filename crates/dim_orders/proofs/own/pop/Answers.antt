@@ -1,4 +1,3 @@
-use Rattle.std.proofs.Common.{sym, ap, ◌∙◌}
 use Rattle.dim_orders.proofs.RowLemmas.{row-popped_read, row-set_other}
 use Rattle.dim_orders.proofs.own.pop.Goals as goal
 

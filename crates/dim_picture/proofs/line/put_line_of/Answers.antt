@@ -1,4 +1,4 @@
-use Rattle.std.proofs.Common.{◌≡◌, ◌≤◌, ◌-◌, ◌∙◌, ◌++◌, ap, arith, List, ℕ, length}
+use Rattle.std.proofs.Common.{◌≡◌, ◌-◌, ◌∙◌, ◌++◌, ap, arith, List, ℕ, length}
 use Rattle.dim_picture.specs.Lines.{line_of}
 use Rattle.dim_picture.proofs.OneLine.{one_length, one_part, text_is}
 use Rattle.dim_picture.proofs.line.put_line_of.Goals as goal

@@ -1,6 +1,5 @@
-use Rattle.std.proofs.Common.{◌∙◌, ◌++◌, ◌∷◌, [], ◌≤◌, ap, arith, length, List}
+use Rattle.std.proofs.Common.{◌∙◌, ◌++◌, ◌∷◌, [], ◌≤◌, ap, arith, length}
 use Rattle.dim_asm.specs.Code.{thread_count, lock_count}
-use Rattle.dim_rag.specs.declared.entry.Entry.{Entry}
 use Rattle.dim_rag.specs.History.{past}
 use Rattle.dim_run.specs.Run.{outcome_by}
 use Rattle.dim_picture.specs.declared.mark.Mark.{Mark}

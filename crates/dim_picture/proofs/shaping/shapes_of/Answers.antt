@@ -1,4 +1,4 @@
-use Rattle.std.proofs.Common.{◌≡◌, ◌+◌, ◌∙◌, sym, ap, arith, length, drop}
+use Rattle.std.proofs.Common.{◌+◌, ◌∙◌, sym, ap, arith, length, drop}
 use Rattle.std.proofs.lemmas.List.{drop_more, drop_all}
 use Rattle.dim_picture.specs.Shapes.{shapes_from}
 use Rattle.dim_picture.proofs.ShapeSteps.{turn, few_after, longer, shapes}

@@ -7,7 +7,7 @@ use Rattle.dim_rag.specs.declared.entry.Entry.{Entry}
 use Rattle.dim_rag.specs.History.{past}
 use Rattle.dim_rag.specs.Shown.{shown}
 use Rattle.dim_rag.specs.Tables.{Replay}
-use Rattle.dim_gate.specs.Gate.{Gate, constants, gate_after}
+use Rattle.dim_gate.specs.Gate.{constants, gate_after}
 use Rattle.dim_gate.specs.Answer.{entry_of, MayGive}
 use Rattle.dim_gate.specs.Legal.{giver_of, command_of}
 use Rattle.dim_trace.proofs.Granting.{may_give, same_asked}

@@ -1,4 +1,4 @@
-use Rattle.std.proofs.Common.{◌≡◌, ◌≤◌, ◌+◌, ◌-◌, length}
+use Rattle.std.proofs.Common.{◌≤◌, ◌+◌, ◌-◌, length}
 use Rattle.dim_tune.specs.Made.{AreFollowed, IsMade}
 use Rattle.dim_tune.proofs.making.make_all.Given as goal
 

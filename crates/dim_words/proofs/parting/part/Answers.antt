@@ -15,6 +15,6 @@ returns-in_default-2 c =
 
 pub returns : goal.returns
 returns c =
-    IfOk-weaker c.taken.result _ _ (λ p h. ap (option_and_then (asked_by c.args.kind)) (h ∙ found_gives_in c.args.kind c.args.words.now c.in-Some.kept (map (λ w. w.now) c.as_slice.result.now) c.in_ok-found.field-0 c.in-Some-2.found
+    IfOk-weaker c.words_taken.result _ _ (λ p h. ap (option_and_then (asked_by c.args.kind)) (h ∙ found_gives_in c.args.kind c.args.words.now c.in-Some.kept (map (λ w. w.now) c.as_slice.result.now) c.in_ok-found.field-0 c.in-Some-2.found
     (sym c.in_ok-kept.ensures ∙ c.in-Some.is)
-    (ap (map (λ w. w.now)) c.as_slice.ensures.value ∙ ap (λ (k : Kept). k.words) c.kept.view_is) c.in-Some-2.is c.in_ok-found.ensures)) c.taken.ensures
+    (ap (map (λ w. w.now)) c.as_slice.ensures.value ∙ ap (λ (k : Kept). k.words) c.kept.view_is) c.in-Some-2.is c.in_ok-found.ensures)) c.words_taken.ensures

@@ -1,4 +1,4 @@
-use Rattle.std.proofs.Common.{ap, sym, ◌∙◌, subst, drop, length, get_or, arith}
+use Rattle.std.proofs.Common.{ap, sym, ◌∙◌, subst, drop, length, get_or}
 use Rattle.std.specs.Prelude.{slice_get}
 use Rattle.std.proofs.lemmas.Option.{slice_get-get_or}
 use Rattle.dim_mutex.specs.Views.{AreCallersOf}

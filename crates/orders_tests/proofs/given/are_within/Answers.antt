@@ -1,8 +1,7 @@
-use Rattle.std.proofs.Common.{◌+◌, take, subst, List}
+use Rattle.std.proofs.Common.{subst}
 use Rattle.std.specs.List.{All}
 use Rattle.std.proofs.lemmas.List.{take_all}
 use Rattle.std.proofs.lemmas.List.Elements.{All-more}
-use Rattle.dim_log.specs.declared.log.Event.{Event}
 use Rattle.dim_log.specs.declared.log.Event.TheVariants.{Lock}
 use Rattle.dim_orders.specs.Own.{IsWithin}
 use Rattle.orders_tests.proofs.given.are_within.Goals as goal

@@ -1,4 +1,4 @@
-use Rattle.std.proofs.Common.{◌≡◌, ℕ, List, Option, Some, ap, ◌∙◌}
+use Rattle.std.proofs.Common.{ℕ, List, Some, ap, ◌∙◌}
 use Rattle.dim_base.specs.Files.{Named, with_file}
 use Rattle.dim_words.specs.Commands.{check_words}
 use Rattle.dim_commands.specs.Course.{after_calls}

@@ -1,4 +1,4 @@
-use Rattle.std.proofs.Common.{◌≡◌, sym, ◌∙◌}
+use Rattle.std.proofs.Common.{sym, ◌∙◌}
 use Rattle.transcribe.proofs.making.made_of.Goals as goal
 
 pub returns-then-is_empty : goal.returns-then-is_empty

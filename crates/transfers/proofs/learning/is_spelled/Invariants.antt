@@ -1,5 +1,4 @@
 use Rattle.std.proofs.Common.{ℕ, ◌<◌, get_or, List}
-use Rattle.std.specs.Prelude.{All}
 use Rattle.dim_stack.specs.declared.Frame.{Frame}
 use Rattle.dim_stack.specs.Names.{IsNamedBy}
 use Rattle.transfers.proofs.learning.is_spelled.Given as goal

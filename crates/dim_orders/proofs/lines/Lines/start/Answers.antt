@@ -1,8 +1,8 @@
-use Rattle.std.proofs.Common.{◌≡◌, ◌+◌, ◌++◌, ◌∷◌, ◌==◌, ◌||◌, ℕ, List, [], if◌then◌else◌, map, set, sym, ap, subst, ◌∙◌}
+use Rattle.std.proofs.Common.{◌≡◌, ◌+◌, ◌++◌, ◌∷◌, ◌==◌, ◌||◌, ℕ, [], if◌then◌else◌, map, set, ap, subst, ◌∙◌}
 use Rattle.std.specs.List.{Contains}
 use Rattle.std.proofs.lemmas.Result.{on_ok_weaker}
 use Rattle.dim_orders.specs.Own.{row}
-use Rattle.dim_orders.specs.Placing.{EndsWith, is_placed}
+use Rattle.dim_orders.specs.Placing.{is_placed}
 use Rattle.dim_orders.proofs.LineLemmas.{begun, freed_fewer, put_behind, unplaced}
 use Rattle.dim_orders.proofs.lines.Lines.start.Goals.{then-is_none+in_default, else-is_none}
 use Rattle.dim_orders.proofs.lines.Lines.start.Goals as goal

@@ -1,4 +1,4 @@
-use Rattle.std.proofs.Common.{Some, ℕ, map, subst, ◌∙◌, length}
+use Rattle.std.proofs.Common.{map, subst, ◌∙◌}
 use Rattle.dim_orders.specs.Placing.{EndsWith}
 use Rattle.dim_orders.proofs.RowLemmas.{popped_fewer, popped_in, popped_shorter}
 use Rattle.dim_orders.proofs.lines.Lines.take_free.Goals as goal

@@ -1,4 +1,4 @@
-use Rattle.std.proofs.Common.{◌≡◌, ℕ, ◌<◌, length}
+use Rattle.std.proofs.Common.{◌≡◌, ℕ, length}
 use Rattle.std.specs.List.{Contains}
 use Rattle.dim_orders.specs.Own.{row}
 use Rattle.dim_orders.proofs.lines.Lines.take_free.Given as goal

@@ -1,4 +1,4 @@
-use Rattle.std.proofs.Common.{◌≡◌, ◌++◌, ◌∷◌, [], List, ap, sym, ◌∙◌, arith}
+use Rattle.std.proofs.Common.{◌++◌, ◌∷◌, [], List, ap, sym, ◌∙◌}
 use Rattle.dim_stack.specs.declared.Frame.{Frame}
 use Rattle.dim_vm.specs.Frames.{stack_of}
 use Rattle.dim_vm.proofs.Stacks.{one_more}
