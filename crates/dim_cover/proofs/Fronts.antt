@@ -13,8 +13,7 @@ use Rattle.dim_stack.specs.Order.{frame_eq}
 use Rattle.dim_rag.specs.declared.entry.Edge.{Edge}
 use Rattle.dim_rag.specs.Born.{In}
 use Rattle.dim_cover.specs.Cover.{agrees}
-use Rattle.dim_cover.specs.Shelf.{bucket}
-use Rattle.dim_cover.specs.Index.{AreFronts, AreLinked, AreTurned, GoOnNear, AreSlots, common, edge_in, edges_in, front, fronted, link, next_of, no_edge, on_at, turned}
+use Rattle.dim_cover.specs.Index.{AreFronts, AreLinked, AreTurned, GoOnNear, AreSlots, common, edge_in, edges_in, first_bucket, front, fronted, link, next_of, no_edge, on_at, turned}
 use Rattle.dim_cover.proofs.Common.{agree_common, lt_zero}
 use Rattle.dim_cover.proofs.Groups.{frames_same, same_frames}
 use Rattle.dim_cover.proofs.Kept.{in_front}
@@ -38,7 +37,7 @@ same_first d a b q =
 -- those of two buckets agree nowhere
 apart_common : (a b : List Frame) → (front a ≡ front b → ⊥) → common a b ≡ 0
 apart_common a b n = elim (cases_Bool (pointwise frame_eq (take 1 a) (take 1 b))) [
-  | inl q ↦ absurd (n (ap bucket (same_first 0 a b q)))
+  | inl q ↦ absurd (n (ap first_bucket (same_first 0 a b q)))
   | inr q ↦ none_below (common a b) (sym (agree_common 0 a b (omega arith)) ∙ q)
 ]
 
@@ -83,7 +82,7 @@ pub other_front : (d : ℕ) (s : List Frame) (e : Edge) → 1 ≤ d → (front e
 other_front d s e low n = elim (cases_Bool (agrees d s e)) [
   | inl a ↦
       let deep : d ≡ d - 1 + 1 = omega (arith, low) in
-      absurd (n (ap bucket (same_first (d - 1) e.stack s (ap (λ m. pointwise frame_eq (take m e.stack) (take m s)) (sym deep) ∙ a))))
+      absurd (n (ap first_bucket (same_first (d - 1) e.stack s (ap (λ m. pointwise frame_eq (take m e.stack) (take m s)) (sym deep) ∙ a))))
   | inr a ↦ a
 ]
 
@@ -198,7 +197,7 @@ module _ (edges : List Edge) where
   past_nothing us links i lt slot a few =
       let g : ℕ = get_or us i 0 in
       record {
-        done = λ s j d low. sym (turned_other g (link links g d) (link links s d) (λ e. alone (front (edge_in edges g).stack) us i lt refl few s j (ap bucket (same_frames (take 1 (edge_in edges s).stack) (take 1 (edge_in edges g).stack) (near_only links us a g slot s (in_front us i s j) d low e)))));
+        done = λ s j d low. sym (turned_other g (link links g d) (link links s d) (λ e. alone (front (edge_in edges g).stack) us i lt refl few s j (ap first_bucket (same_frames (take 1 (edge_in edges s).stack) (take 1 (edge_in edges g).stack) (near_only links us a g slot s (in_front us i s j) d low e)))));
         others = λ s j d. refl;
       }
 

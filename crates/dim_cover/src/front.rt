@@ -4,8 +4,10 @@ ghost use Rattle.std.specs.Cmp.Lexicographic.{pointwise};
 ghost use Rattle.dim_stack.specs.Order.{frame_eq};
 ghost use Rattle.dim_cover.specs.Index.{front};
 
-use crate::shelf::mixed;
 use dim_stack::{Frame, Stack};
+
+/// How many buckets there are.
+const BUCKETS: u64 = 4096;
 
 /// The bucket of the innermost frame of a stack.
 pub fn front_of(stack: &Stack) -> usize
@@ -13,7 +15,7 @@ pub fn front_of(stack: &Stack) -> usize
     ensures low { result < 4096 }
 {
     let _some = stack.len(); // for the contract: a stack has a frame
-    (mixed(0, &stack.frame(0)) % 4096) as usize
+    front_in(stack.as_slice())
 }
 
 /// The bucket of the first of some frames, of which there is one at least.
@@ -22,7 +24,8 @@ pub fn front_in(frames: &[Frame]) -> usize
     ensures bucket { result ≡ front frames.now }
     ensures low { result < 4096 }
 {
-    (mixed(0, &frames[0]) % 4096) as usize
+    let Frame { func, at } = frames[0];
+    ((u64::from(func) * 67 + u64::from(at)) % BUCKETS) as usize
 }
 
 /// Whether the innermost frames of two stacks are equal.

@@ -1,7 +1,8 @@
 //! The gate and the machines at the start.
 ghost use Rattle.std.specs.Prelude.{◌≡◌, ◌≤◌, length, None, IfOk};
 ghost use Rattle.dim_asm.specs.Code.{thread_count};
-ghost use Rattle.dim_execution.specs.Start.{first_gate, gate_of, learns, starts};
+ghost use Rattle.dim_execution.specs.Start.{gate_of, learnable, starts};
+ghost use Rattle.dim_gate.specs.Gate.{first_gate};
 
 use dim_asm::Program;
 use dim_base::{OutOfMemory, Tid};
@@ -52,7 +53,7 @@ pub fn new_lean_gate(
 /// How many signatures may be learnt beside those that were loaded, which are at most 4,096.
 fn learns_beside(loaded: &Catalogue) -> u32
     requires { length loaded.now.sigs ≤ 4096 }
-    ensures { result ≡ learns (length loaded.now.sigs) }
+    ensures { result ≡ learnable (length loaded.now.sigs) }
 {
     LEARNS.min(MOST_SIGNATURES - loaded.len())
 }

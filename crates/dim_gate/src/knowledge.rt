@@ -1,5 +1,5 @@
 //! What a gate knows beside the graph of its history.
-ghost use Rattle.std.specs.Prelude.{◌≡◌, ℕ, ◌+◌, ◌≤◌, ◌∷◌, ◌++◌, [], length, take, is_some, IfOk, None, Option};
+ghost use Rattle.std.specs.Prelude.{◌≡◌, ℕ, ◌+◌, ◌-◌, ◌≤◌, ◌∷◌, ◌++◌, [], length, take, is_some, IfOk, None, Option};
 ghost use Rattle.dim_rag.specs.declared.entry.Entry.TheVariants.{Learn};
 ghost use Rattle.dim_rag.specs.History.{past};
 ghost use Rattle.dim_rag.specs.Shown.{HasStack, shown};
@@ -20,7 +20,7 @@ use crate::tender::{break_out, learn};
 use crate::threads::{acquire, end, release};
 use dim_base::{OutOfMemory, Tid};
 use dim_cover::{Index, Shelf};
-use dim_rag::{Births, Command, EntryRef, Graph, Reply};
+use dim_rag::{Births, Command, EntryRef, Graph, Reply, Tables};
 use dim_signature::Catalogue;
 use std::alloc::Global;
 
@@ -120,6 +120,28 @@ impl Knowledge {
         let _few = graph.len(); // for the contract: the entries fit, and there are few
         note_learnt(&mut self.catalogue, &mut self.shelf, graph, self.depth, e);
         self.index.tell_ref(graph, e);
+    }
+
+    /// Enters an entry into tables that comes next, and takes in what it makes known.
+    ///
+    /// It isn't inlined, so that what answers a command stays small enough to be inlined itself.
+    #[inline(never)]
+    pub fn enter(&mut self, tables: &mut Tables, e: &EntryRef<'_>)
+        requires room { 1 ≤ tables.old.spare }
+        requires knows { Knows tables.old self.old }
+        requires stack { HasStack e.now }
+        requires legal { IsLegalAfter (constants (gate_at tables.old self.old None))
+            (past tables.old.entries) (shown e.now) }
+        ensures tables { tables.new
+            ≡ record tables.old
+            { entries = tables.old.entries ++ shown e.now ∷ []; spare = tables.old.spare - 1 } }
+        ensures knows { Knows tables.new self.new }
+        ensures same { (r : Replay) (feed : Option FeedId) → gate_at r self.new feed
+            ≡ gate_at r self.old feed }
+    {
+        let _few = tables.len(); // for the contract: the entries fit, and there are few
+        self.take_in(tables.graph(), e);
+        tables.enter_ref(e);
     }
 
     /// Whether the signature of a cycle or of a starvation is known.

@@ -6,7 +6,7 @@ ghost use Rattle.dim_rag.specs.Shown.{HasStack, shown};
 ghost use Rattle.dim_rag.specs.declared.command.Command.TheVariants.{Acquire, Release};
 ghost use Rattle.dim_rag.specs.declared.entry.Entry.TheVariants.{Got, Free};
 ghost use Rattle.dim_signature.specs.Catalogue.{signature_number};
-ghost use Rattle.dim_gate.specs.Gate.{constants, replay, gate_after};
+ghost use Rattle.dim_gate.specs.Gate.{constants, first_gate, replay, gate_after};
 ghost use Rattle.dim_gate.specs.Known.{known_sigs, stacks_of};
 ghost use Rattle.dim_gate.specs.Starved.{learn_fault};
 ghost use Rattle.dim_gate.specs.Answer.{reply_of, entry_of, MayGive};
@@ -62,16 +62,13 @@ impl LeanGate {
         requires few_known { length loaded.sigs + learns ≤ 4096 }
         ensures { IfOk result
             (λ gate. gate
-            ≡ record {
+            ≡ first_gate None
+            record {
               threads = threads;
               locks = locks;
               loaded = loaded.sigs;
               depth = depth;
-              cap = length
-                  loaded.sigs + learns;
-              entries = [];
-              spare = 0;
-              feed = None;
+              cap = length loaded.sigs + learns;
             }) }
     {
         let graph = Graph::new(alloc, threads, locks)?;

@@ -106,6 +106,9 @@ impl Tables {
 
     /// Appends an entry that fits and is given by reference, in the room that there is. It costs the
     /// same at any length, and makes no entry.
+    ///
+    /// It is inlined, so that the kind of an entry is asked for once where it is known.
+    #[inline(always)]
     pub fn enter_ref(&mut self, e: &EntryRef<'_>)
         requires room { 1 ≤ self.old.spare }
         requires stack { HasStack e.now }

@@ -68,10 +68,12 @@ impl Stack {
         requires some { 1 ≤ length frames.now }
         ensures { result ≡ frames.now }
     {
-        let mut all = [Frame { func: 0, at: 0 }; 32];
-        let len = frames.len();
-        all[..len].copy_from_slice(frames);
-        Stack { len, frames: all }
+        let mut stack = Stack {
+            len: 1,
+            frames: NO_FRAMES,
+        };
+        stack.set_frames(frames);
+        stack
     }
 
     /// Becomes another stack. Only the frames that one of the two has are written, since most

@@ -19,7 +19,8 @@ use dim_run::{KeptRun, Settings};
 use dim_stack::Names;
 use std::alloc::Global;
 
-/// How many bytes the room has that is asked for before the first attempt. An attempt takes less.
+/// How many bytes the room has that is asked for before the first attempt. An attempt of up to some
+/// 200,000 entries takes less.
 const ROOM: usize = 16 * 1024 * 1024;
 
 /// Runs a program again and again, first from the signatures of a history, and then each time from

@@ -1,9 +1,8 @@
 //! How a domain is opened.
 ghost use Rattle.std.specs.Prelude.{◌≡◌, ℕ, ◌+◌, ◌*◌, ◌<◌, ◌≤◌, ◌^◌, All, [], length, map, min, slice_get, vec_capacity, None, Some, IfErr, IfOk};
-ghost use Rattle.dim_gate.specs.Gate.{constants};
+ghost use Rattle.dim_gate.specs.Gate.{constants, first_gate};
 ghost use Rattle.dim_turn.specs.Passes.{seen_of};
 ghost use Rattle.dim_run.specs.Gates.{Owns, known, opened};
-ghost use Rattle.dim_execution.specs.Start.{first_gate};
 ghost use Rattle.dim_mutex.specs.Standing.{IsIdle};
 ghost use Rattle.dim_mutex.specs.Views.{opening, allowance_of, view_of, constants_of, fresh, AreCallersOf, IsReady};
 
