@@ -14,7 +14,7 @@ use Rattle.dim_asm.specs.Code.{has_name, AreNames}
 use Rattle.dim_asm.specs.Source.{Source, Draft, DraftFunction, DraftStart, Statement, Head, LockLine, FuncLine, OpLine, EndLine, ThreadLine, Close, names_of, draft_count, last_size, size_in, with_draft, with_statement}
 use Rattle.dim_asm.specs.Judging.{State, after, stage_after, nothing, judged, step, at_end, closed}
 use Rattle.dim_asm.specs.Spelling.{open_function, function_lines, open_functions, down_to_locks, down_to_functions, down_to_threads, lines_so_far}
-use Rattle.dim_asm.specs.Grammar.{may_follow, IsDraft, HasPlace, IsOpen, IsStart, AreEnded, AreFilled, IsAt, IsFront, Fits, IsSource}
+use Rattle.dim_asm.specs.Grammar.{may_follow, IsDraft, HasPlace, IsOpen, IsStart, AreEnded, AreFilled, IsAt, IsFront, FitsStage, IsSource}
 use Rattle.dim_asm.specs.Reader.{HasRoom}
 use Rattle.dim_asm.proofs.SourceLemmas.{names-with_draft, draft_count-with_draft, draft_count-cons}
 use Rattle.dim_asm.proofs.Judgements.{Placed, judged_placed}
@@ -171,7 +171,7 @@ at_after stage.Threads s Close a f p = a
 at_after _ s _ a f p = cc
 
 -- a state that reading comes to, behind a line at its place
-pub fits_after : (at : Stage) (s : Source) (line : List ℕ) (x : Statement) → Fits (record { stage = at; source = s }) → Placed at s line x → Fits (after x (record { stage = at; source = s }))
+pub fits_after : (at : Stage) (s : Source) (line : List ℕ) (x : Statement) → FitsStage (record { stage = at; source = s }) → Placed at s line x → FitsStage (after x (record { stage = at; source = s }))
 fits_after at s line x h p = record {
   front = front_after s x h.front p.place (room at s x h.at h.front p.follows p.place);
   at = at_after at s x h.at p.follows p.place;
@@ -264,10 +264,10 @@ few_lines stage.Closed s h =
 pub record Moves (s t : State) (line : List ℕ) (x : Statement) : Type 0 where
   pub placed : Placed s.stage s.source line x
   pub after : t ≡ after x s
-  pub fits : Fits t
+  pub fits : FitsStage t
   pub lines : lines_so_far t.stage t.source ≡ lines_so_far s.stage s.source ++ x ∷ []
 
-pub step_moves : (s t : State) (line : List ℕ) → Fits s → step s line ≡ Ok t → (x : Statement) × Moves s t line x
+pub step_moves : (s t : State) (line : List ℕ) → FitsStage s → step s line ≡ Ok t → (x : Statement) × Moves s t line x
 unfolding step
 step_moves s t line h e =
     let parts = bind_ok (judged s.stage s.source line) (λ x. Ok (after x s)) t e in
@@ -277,13 +277,13 @@ step_moves s t line h e =
       record {
         placed = placed;
         after = same;
-        fits = subst Fits (sym same) (fits_after s.stage s.source line parts.0 h placed);
+        fits = subst FitsStage (sym same) (fits_after s.stage s.source line parts.0 h placed);
         lines = subst (λ (u : State). lines_so_far u.stage u.source ≡ lines_so_far s.stage s.source ++ parts.0 ∷ []) (sym same) (lines_after s.stage s.source parts.0 h.at placed.follows);
       },
     )
 
-pub line_after : (s t : State) (line : List ℕ) (n : ℕ) → Fits s → step s line ≡ Ok t → n ≡ 1 + length (lines_so_far s.stage s.source)
-    → Fits t × (n + 1 ≡ 1 + length (lines_so_far t.stage t.source)) × (n + 1 < 2 ^ 32)
+pub line_after : (s t : State) (line : List ℕ) (n : ℕ) → FitsStage s → step s line ≡ Ok t → n ≡ 1 + length (lines_so_far s.stage s.source)
+    → FitsStage t × (n + 1 ≡ 1 + length (lines_so_far t.stage t.source)) × (n + 1 < 2 ^ 32)
 line_after s t line n h e at =
     let moves = step_moves s t line h e in
     let longer = ap length moves.1.lines ∙ length-append (lines_so_far s.stage s.source) (moves.0 ∷ []) in
@@ -293,7 +293,7 @@ closed_whole : (at : Stage) (s a : Source) → IsAt at s → closed at s ≡ Ok 
 closed_whole stage.Closed s a h e = (cc (e), h)
 closed_whole _ s a h e = cc (e)
 
-pub end_whole : (s : State) (last : List ℕ) (a : Source) → Fits s → at_end s last ≡ Ok a → (a ≡ s.source) × IsSource a × (last ≡ []) × (closed s.stage s.source ≡ Ok a)
+pub end_whole : (s : State) (last : List ℕ) (a : Source) → FitsStage s → at_end s last ≡ Ok a → (a ≡ s.source) × IsSource a × (last ≡ []) × (closed s.stage s.source ≡ Ok a)
 unfolding at_end
 end_whole s [] a h e =
     let whole = closed_whole s.stage s.source a h.at e in
@@ -301,7 +301,7 @@ end_whole s [] a h e =
     (whole.0, subst IsSource (sym whole.0) sound, refl, e)
 end_whole s (b ∷ last) a h e = cc (e)
 
-pub fits_start : Fits (record { stage = stage.Head; source = nothing })
+pub fits_start : FitsStage (record { stage = stage.Head; source = nothing })
 fits_start = record {
   front = record {
     few_locks = omega arith;

@@ -16,7 +16,7 @@ use Rattle.dim_asm.specs.Code.{has_name, AreNames}
 use Rattle.dim_asm.specs.Source.{Source, Draft, DraftFunction, DraftStart, Statement, LockLine, FuncLine, OpLine, EndLine, ThreadLine, Close, draft_count, last_size, with_draft}
 use Rattle.dim_asm.specs.Judging.{State, after, step, at_end, closed, start, source_of}
 use Rattle.dim_asm.specs.Spelling.{spelled, function_lines, down_to_locks, down_to_functions, down_to_threads, lines_so_far, text_of, source_text}
-use Rattle.dim_asm.specs.Grammar.{may_follow, IsDraft, HasPlace, IsOpen, IsStart, AreFilled, Fits, IsSource}
+use Rattle.dim_asm.specs.Grammar.{may_follow, IsDraft, HasPlace, IsOpen, IsStart, AreFilled, FitsStage, IsSource}
 use Rattle.dim_asm.proofs.SourceLemmas.{draft_count-cons}
 use Rattle.dim_asm.proofs.Fitting.{differ, or_false, last_size-more, step_moves, end_whole, fits_start}
 use Rattle.dim_asm.proofs.Judged.{one_line, placed_judged}
@@ -26,7 +26,7 @@ use Rattle.dim_asm.proofs.Printed.{text-push}
 abbrev front : State → List ℕ
 front s = text_of (lines_so_far s.stage s.source)
 
-step_spells : (s : State) (line : List ℕ) (t : State) → Fits s → step s line ≡ Ok t → Fits t × (front t ≡ front s ++ ended line)
+step_spells : (s : State) (line : List ℕ) (t : State) → FitsStage s → step s line ≡ Ok t → FitsStage t × (front t ≡ front s ++ ended line)
 step_spells s line t fits e =
     let moves = step_moves s t line fits e in
     let lines = lines_so_far s.stage s.source in
@@ -36,17 +36,17 @@ closed_stage : (at : Stage) (s a : Source) → closed at s ≡ Ok a → at ≡ s
 closed_stage stage.Closed s a e = refl
 closed_stage _ s a e = cc (e)
 
-end_spells : (s : State) (last : List ℕ) (a : Source) → Fits s → at_end s last ≡ Ok a → IsSource a × (source_text a ≡ front s ++ last)
+end_spells : (s : State) (last : List ℕ) (a : Source) → FitsStage s → at_end s last ≡ Ok a → IsSource a × (source_text a ≡ front s ++ last)
 end_spells s last a fits e =
     let whole = end_whole s last a fits e in
     let at = closed_stage s.stage s.source a whole.3 in
     (whole.1, ap source_text whole.0 ∙ ap (λ x. text_of (lines_so_far x s.source)) (sym at) ∙ sym (append-nil (front s)) ∙ ap (λ l. front s ++ l) (sym whole.2))
 
-spells : Spells step at_end Fits front IsSource source_text
+spells : Spells step at_end FitsStage front IsSource source_text
 spells = record { steps = step_spells; ends = end_spells }
 
 pub spelled_back : (bytes : List ℕ) (s : Source) → source_of bytes ≡ Ok s → IsSource s × (source_text s ≡ bytes)
-spelled_back bytes s e = read_from-spelled fault step at_end Fits front IsSource source_text spells bytes start 1 s fits_start e
+spelled_back bytes s e = read_from-spelled fault step at_end FitsStage front IsSource source_text spells bytes start 1 s fits_start e
 
 -- ---- lines that lead from one state to another, each at its place
 abbrev Leads : State → List Statement → State → Type 0

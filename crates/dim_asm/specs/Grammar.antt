@@ -93,7 +93,7 @@ pub record IsFront (s : Source) : Type 0 where
   pub starts : AllByRecursion IsStart s.threads
 
 -- what holds of every state that reading comes to
-pub record Fits (s : State) : Type 0 where
+pub record FitsStage (s : State) : Type 0 where
   pub front : IsFront s.source
   pub at : IsAt s.stage s.source
 

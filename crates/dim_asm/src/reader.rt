@@ -60,7 +60,7 @@ pub struct Reader<'a> {
 
 impl<'a> Reader<'a> {
     ghost use Rattle.dim_asm.specs.Reader.{read, state_of, IsCounted, HasRoom};
-    ghost use Rattle.dim_asm.specs.Grammar.{Fits};
+    ghost use Rattle.dim_asm.specs.Grammar.{FitsStage};
 
     /// Nothing yet.
     pub fn new(alloc: Global) -> Reader<'a>
@@ -154,7 +154,7 @@ impl<'a> Reader<'a> {
     #[tactic(auto, unfolding(crate::specs::Judging::step))]
     pub fn step(&mut self, alloc: Global, number: u32, line: &'a [u8]) -> Result<(), AsmError>
         requires counted { IsCounted self.old }
-        requires fits { Fits (state_of self.old) }
+        requires fits { FitsStage (state_of self.old) }
         ensures step { Leaves fault_of (state_of self.new) result
             (in_line fault number (step (state_of self.old) line.now)) }
         ensures counted { OnOk result (IsCounted self.new) }

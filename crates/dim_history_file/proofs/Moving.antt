@@ -21,7 +21,7 @@ use Rattle.dim_history_file.specs.Faults.{fault}
 use Rattle.dim_history_file.specs.Value.{NamedFrame, NamedSig, have_stacks}
 use Rattle.dim_history_file.specs.Judging.{Begun, Stage, Head, Due, Within, Closed, State, head, version_of, signature_with, head_line, due_line, stack_of, is_less_than_last, with_signature, with_stack, stack_line, step, at_end, closed, start, history_of}
 use Rattle.dim_history_file.specs.Spelling.{Line, HeadLine, SignatureLine, StackLine, EndLine, spelled, open_lines, sig_lines, lines_before_end, history_lines, lines_at, lines_so_far, opening_words, text_of, text_in}
-use Rattle.dim_history_file.specs.Grammar.{CanSay, CanSayAll, IsStack, AreInOrder, IsSignature, IsHistory, IsTextOf, HasHead, IsBegun, IsAt, Fits}
+use Rattle.dim_history_file.specs.Grammar.{CanSay, CanSayAll, IsStack, AreInOrder, IsSignature, IsHistory, IsTextOf, HasHead, IsBegun, IsAt, FitsStage}
 use Rattle.dim_history_file.proofs.Comparing.{distinct-push}
 use Rattle.dim_history_file.proofs.Judged.{same_bytes, version_ok, stack_ok, signature_ok, end_ok}
 
@@ -30,7 +30,7 @@ pub record Moves (s t : State) (line : List ℕ) : Type 0 where
   pub said : Line
   pub text : line ≡ spelled said
   pub lines : lines_so_far t ≡ lines_so_far s ++ said ∷ []
-  pub fits : Fits t
+  pub fits : FitsStage t
 
 pub all-push : {X : Type 0} (P : X → Type 0) (xs : List X) (y : X) → AllByRecursion P xs → P y → AllByRecursion P (xs ++ y ∷ [])
 all-push P [] y h p = (p, tt)
@@ -149,7 +149,7 @@ module _ (version : Version) (sigs : List NamedSig) (b : Begun) (stack : List Na
   abbrev pub before : State
   before = record { version = version; stage = Within b; sigs = sigs }
 
-  last_moves : (t : State) → length stacks ≡ b.opening.count → with_signature version sigs whole ≡ Ok t → (lines_so_far t ≡ lines_so_far before ++ StackLine stack ∷ []) × Fits t
+  last_moves : (t : State) → length stacks ≡ b.opening.count → with_signature version sigs whole ≡ Ok t → (lines_so_far t ≡ lines_so_far before ++ StackLine stack ∷ []) × FitsStage t
   last_moves t count e =
       elim (chosen (have_stacks sigs stacks) _ _ _ e) [
         | inl known ↦ cc (known.1)
@@ -165,7 +165,7 @@ module _ (version : Version) (sigs : List NamedSig) (b : Begun) (stack : List Na
               sorted = in_order-push b.stacks stack begun.sorted after;
               yields = begun.yields;
             } in
-            subst (λ (u : State). (lines_so_far u ≡ lines_so_far before ++ StackLine stack ∷ []) × Fits u) same (
+            subst (λ (u : State). (lines_so_far u ≡ lines_so_far before ++ StackLine stack ∷ []) × FitsStage u) same (
               whole_lines version sigs b.opening stacks count ∙ longer_lines version sigs b.opening b.stacks stack,
               record {
                 history = history_push sigs whole h begun.room sound new.0;
@@ -176,11 +176,11 @@ module _ (version : Version) (sigs : List NamedSig) (b : Begun) (stack : List Na
       ]
 
   next_moves : (t : State) → (length stacks ≡ b.opening.count → ⊥) → ◌≡◌ {A = Result State FileKind} (Ok (record { version = version; stage = Within (record b { stacks = stacks }); sigs = sigs })) (Ok t)
-      → (lines_so_far t ≡ lines_so_far before ++ StackLine stack ∷ []) × Fits t
+      → (lines_so_far t ≡ lines_so_far before ++ StackLine stack ∷ []) × FitsStage t
   next_moves t other e =
       let within : State = record { version = version; stage = Within (record b { stacks = stacks }); sigs = sigs } in
       let same : within ≡ t = cc (e) in
-      subst (λ (u : State). (lines_so_far u ≡ lines_so_far before ++ StackLine stack ∷ []) × Fits u) same (
+      subst (λ (u : State). (lines_so_far u ≡ lines_so_far before ++ StackLine stack ∷ []) × FitsStage u) same (
         longer_lines version sigs b.opening b.stacks stack,
         record {
           history = h;
@@ -200,7 +200,7 @@ module _ (version : Version) (sigs : List NamedSig) (b : Begun) (stack : List Na
         },
       )
 
-  pub with_moves : (t : State) → with_stack version sigs b stacks ≡ Ok t → (lines_so_far t ≡ lines_so_far before ++ StackLine stack ∷ []) × Fits t
+  pub with_moves : (t : State) → with_stack version sigs b stacks ≡ Ok t → (lines_so_far t ≡ lines_so_far before ++ StackLine stack ∷ []) × FitsStage t
   with_moves t e =
       elim (chosen (length stacks == b.opening.count) _ _ _ e) [
         | inl last ↦ last_moves t (eqb-true (length stacks) b.opening.count last.0) last.1
@@ -226,7 +226,7 @@ stack_moves version sigs b line t h says begun e =
     }
 
 -- ---- any line, and the end
-pub step_moves : (s t : State) (line : List ℕ) → Fits s → step s line ≡ Ok t → Moves s t line
+pub step_moves : (s t : State) (line : List ℕ) → FitsStage s → step s line ≡ Ok t → Moves s t line
 unfolding step
 step_moves s t line fits e = go s.version s.stage s.sigs fits.history fits.says fits.at e
   where
@@ -248,7 +248,7 @@ unfolding at_end
 end_closes s [] a e = let h = closed_is s.stage s.sigs a e in (refl, h.0, h.1)
 end_closes s (b ∷ last) a e = cc (e)
 
-pub fits_start : Fits start
+pub fits_start : FitsStage start
 fits_start = record { history = no_sigs; says = tt; at = refl }
 
 -- ---- what is read is spelled so
@@ -258,7 +258,7 @@ front s = text_of (lines_so_far s)
 pub text-push : (lines : List Line) (x : Line) → text_of (lines ++ x ∷ []) ≡ text_of lines ++ ended (spelled x)
 text-push lines x = flat_map-append (λ l. ended (spelled l)) lines (x ∷ []) ∙ ap (λ t. text_of lines ++ t) (append-nil (ended (spelled x)))
 
-step_spells : (s : State) (line : List ℕ) (t : State) → Fits s → step s line ≡ Ok t → Fits t × (front t ≡ front s ++ ended line)
+step_spells : (s : State) (line : List ℕ) (t : State) → FitsStage s → step s line ≡ Ok t → FitsStage t × (front t ≡ front s ++ ended line)
 step_spells s line t fits e =
     let m = step_moves s t line fits e in
     (m.fits, ap text_of m.lines ∙ text-push (lines_so_far s) m.said ∙ ap (λ x. front s ++ ended x) (sym m.text))
@@ -270,7 +270,7 @@ record Told (s : State) (parts : List (List ℕ)) (a : List NamedSig) : Type 0 w
   pub says : CanSayAll version a
   pub text : text_in version a ≡ front s ++ join_with_byte 10 parts
 
-end_told : (s : State) (last : List ℕ) (a : List NamedSig) → Fits s → at_end s last ≡ Ok a → Told s (last ∷ []) a
+end_told : (s : State) (last : List ℕ) (a : List NamedSig) → FitsStage s → at_end s last ≡ Ok a → Told s (last ∷ []) a
 end_told s last a fits e =
     let h = end_closes s last a e in
     let lines : lines_so_far s ≡ history_lines s.version a = ap (λ stage. lines_at s.version stage s.sigs) h.1 ∙ ap (history_lines s.version) h.2 in
@@ -281,7 +281,7 @@ end_told s last a fits e =
       text = sym (ap (λ l. front s ++ l) h.0 ∙ append-nil (front s) ∙ ap text_of lines);
     }
 
-told : (parts : List (List ℕ)) (s : State) (n : ℕ) (a : List NamedSig) → parts ≢ [] → Fits s → read_from fault step at_end s n parts ≡ Ok a → Told s parts a
+told : (parts : List (List ℕ)) (s : State) (n : ℕ) (a : List NamedSig) → parts ≢ [] → FitsStage s → read_from fault step at_end s n parts ≡ Ok a → Told s parts a
 unfolding read_from
 told [] s n a some fits e = absurd (some refl)
 told (last ∷ []) s n a some fits e = end_told s last a fits (in_line_ok fault n (at_end s last) a e)
@@ -333,8 +333,8 @@ few_lines version (Within b) sigs h at =
     omega (arith, length-append (lines_before_end version sigs) (open_lines version b.opening b.stacks), length-map b.stacks (λ x. StackLine x), sigs_length version sigs h.signatures, h.few, at.due, at.few)
 few_lines version Closed sigs h at = omega (arith, length-append (lines_before_end version sigs) (EndLine (length sigs) ∷ []), sigs_length version sigs h.signatures, h.few)
 
-pub line_after : (s t : State) (line : List ℕ) (n : ℕ) → Fits s → step s line ≡ Ok t → n ≡ 1 + length (lines_so_far s)
-    → Fits t × (n + 1 ≡ 1 + length (lines_so_far t)) × (n + 1 < 2 ^ 32)
+pub line_after : (s t : State) (line : List ℕ) (n : ℕ) → FitsStage s → step s line ≡ Ok t → n ≡ 1 + length (lines_so_far s)
+    → FitsStage t × (n + 1 ≡ 1 + length (lines_so_far t)) × (n + 1 < 2 ^ 32)
 line_after s t line n fits e at =
     let m = step_moves s t line fits e in
     let longer = ap length m.lines ∙ length_push (lines_so_far s) m.said in

@@ -87,7 +87,7 @@ IsAt version (Within begun) sigs = IsBegun version sigs begun
 IsAt version Closed sigs = ⊤
 
 -- what holds of every state that reading comes to
-pub record Fits (s : State) : Type 0 where
+pub record FitsStage (s : State) : Type 0 where
   pub history : IsHistory s.sigs
   pub says : CanSayAll s.version s.sigs
   pub at : IsAt s.version s.stage s.sigs

@@ -54,7 +54,7 @@ pub struct Reader {
 
 impl Reader {
     ghost use Rattle.dim_history_file.specs.Reader.{IsReading, sigs_of, state_of, begun_of};
-    ghost use Rattle.dim_history_file.specs.Grammar.{Fits, IsBegun};
+    ghost use Rattle.dim_history_file.specs.Grammar.{FitsStage, IsBegun};
 
     /// Nothing yet.
     pub fn new(alloc: Global, names: Names) -> Reader
@@ -193,7 +193,7 @@ impl Reader {
     #[tactic(auto, unfolding(crate::specs::Judging::step))]
     fn take(&mut self, alloc: Global, line: &[u8]) -> Result<(), Stop<FileKind>>
         requires reading { IsReading self.old }
-        requires fits { Fits (state_of self.old) }
+        requires fits { FitsStage (state_of self.old) }
         requires covers { HasNames self.old.names (names_in_line line.now) }
         ensures value { Leaves kind_of (state_of self.new) result
             (step (state_of self.old) line.now) }
@@ -212,7 +212,7 @@ impl Reader {
     /// Reads the line of this number.
     pub fn step(&mut self, alloc: Global, number: u32, line: &[u8]) -> Result<(), ReadFault>
         requires reading { IsReading self.old }
-        requires fits { Fits (state_of self.old) }
+        requires fits { FitsStage (state_of self.old) }
         requires covers { HasNames self.old.names (names_in_line line.now) }
         ensures value { Leaves fault_of (state_of self.new) result
             (in_line fault number (step (state_of self.old) line.now)) }

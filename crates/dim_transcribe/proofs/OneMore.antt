@@ -16,7 +16,7 @@ use Rattle.dim_log.specs.declared.log.Log.{Log}
 use Rattle.dim_log.specs.declared.log.Spot.{Spot}
 use Rattle.dim_orders.specs.declared.kept.Operation.{Operation}
 use Rattle.dim_transcribe.specs.declared.transcript.Key.{Key}
-use Rattle.dim_transcribe.specs.declared.transcript.Place.{Place}
+use Rattle.dim_transcribe.specs.declared.transcript.StandIn.{StandIn}
 use Rattle.dim_transcribe.specs.Performs.{IsStack, Made, Means, PerformsChain, StandFor, Stands, StandsWith, calls_after, made}
 
 -- a machine stands where its own entries are those of some operations, and this is what it holds
@@ -47,13 +47,13 @@ below_more P k h x j lt = elim (cases_Bool (eqb j k)) [
 ]
 
 -- frames that stand for the innermost spots of a stack of the log
-pub stack_found : (key : Key) (log : Log) (stack : ℕ) (s frames : List Frame) (v : Vec Spot Global) (places : List Place) (inner spots : List Spot)
+pub stack_found : (key : Key) (log : Log) (stack : ℕ) (s frames : List Frame) (v : Vec Spot Global) (places : List StandIn) (inner spots : List Spot)
     → places ≡ key.places.items → frames ≡ s → inner ≡ take 30 spots → spots ≡ v.items
     → Some v ≡ slice_get log.stacks.items stack → StandFor places frames inner → IsStack key log stack s
 stack_found key log stack s frames v places inner spots ps fs is vs there h = record {
   spots = v;
   there = sym there;
-  stand = subst (λ (x : List Place). StandFor x s (take 30 v.items)) ps
+  stand = subst (λ (x : List StandIn). StandFor x s (take 30 v.items)) ps
       (subst (λ (x : List Frame). StandFor places x (take 30 v.items)) fs
       (subst (λ (x : List Spot). StandFor places frames x) (is ∙ ap (take 30) vs) h));
 }

@@ -19,7 +19,7 @@ use Rattle.dim_orders.specs.declared.kept.Deed.TheVariants as deed
 use Rattle.dim_orders.specs.declared.kept.Operation.{Operation}
 use Rattle.dim_orders.specs.declared.kept.Chain.{Chain}
 use Rattle.dim_orders.specs.declared.kept.Kept.{Kept}
-use Rattle.dim_transcribe.specs.declared.transcript.Place.{Place}
+use Rattle.dim_transcribe.specs.declared.transcript.StandIn.{StandIn}
 use Rattle.dim_transcribe.specs.declared.transcript.Key.{Key}
 
 -- with so many units each thread plays
@@ -27,12 +27,12 @@ unfoldable pub most_units : ℕ
 most_units = 8192
 
 -- a frame is one of the places, and stands for a spot of the source
-abbrev pub IsAt : List Place → Frame → Spot → Type 0
+abbrev pub IsAt : List StandIn → Frame → Spot → Type 0
 IsAt places frame spot = Contains places (record { frame = frame; spot = spot })
 
 -- no two places have the same frame
-abbrev pub AreSingle : List Place → Type 0
-AreSingle places = (i j : ℕ) (a b : Place) → i < j → slice_get places i ≡ Some a
+abbrev pub AreSingle : List StandIn → Type 0
+AreSingle places = (i j : ℕ) (a b : StandIn) → i < j → slice_get places i ≡ Some a
     → slice_get places j ≡ Some b → a.frame ≢ b.frame
 
 -- a number by which frames are ordered
@@ -40,7 +40,7 @@ abbrev pub key_of : Frame → ℕ
 key_of frame = frame.func * 65536 + frame.at
 
 -- frames stand for spots, one for each, before the two outermost, which are the loop's
-pub record StandFor (places : List Place) (frames : List Frame) (spots : List Spot) : Type 0 where
+pub record StandFor (places : List StandIn) (frames : List Frame) (spots : List Spot) : Type 0 where
   pub lengths : length frames ≡ length spots + 2
   pub each : (i : ℕ) (frame : Frame) (spot : Spot) → slice_get frames i ≡ Some frame
       → slice_get spots i ≡ Some spot → IsAt places frame spot

@@ -20,4 +20,4 @@ mod units;
 pub use performing::performs;
 pub use table::places_text;
 pub use transcribing::transcribe;
-pub use transcript::{Key, Limit, Move, Place, Transcribe, Transcript};
+pub use transcript::{Key, Limit, Move, StandIn, Transcribe, Transcript};

@@ -2,7 +2,7 @@
 use crate::drafting::{CALL_OF_ROOTS, Draft, OWN_FUNCTIONS, ROOTS, RUN, within_leaf};
 use crate::items::{Items, Step};
 use crate::sites::{Site, Sites, sites_of};
-use crate::transcript::{Key, Move, Place};
+use crate::transcript::{Key, Move, StandIn};
 use dim_asm::Program;
 use dim_base::{Lid, OutOfMemory};
 use dim_log::{Log, Spot};
@@ -34,7 +34,7 @@ impl<'a> Assembled<'a> {
         for site in self.sites.all.iter() {
             places.push(self.place(site))?;
         }
-        places.sort_by_key(|place: &Place| place.frame)?;
+        places.sort_by_key(|place: &StandIn| place.frame)?;
         let mut locks = Vec::new(alloc);
         for lock in self.items.locks.iter() {
             locks.push(*lock)?;
@@ -111,8 +111,8 @@ impl<'a> Assembled<'a> {
     }
 
     /// The place of a site.
-    fn place(&self, site: &Site) -> Place {
-        Place {
+    fn place(&self, site: &Site) -> StandIn {
+        StandIn {
             frame: self.site_frame(site),
             spot: Spot {
                 function: site.function,

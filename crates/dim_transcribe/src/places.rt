@@ -2,7 +2,7 @@
 ghost use Rattle.std.specs.Prelude.{◌≡◌, ◌<◌, ◌≤◌, ◌^◌, IsTrue, take};
 ghost use Rattle.dim_transcribe.specs.Performs.{AreSingle, IsAt, StandFor, key_of};
 
-use crate::transcript::Place;
+use crate::transcript::StandIn;
 use dim_log::Spot;
 use dim_stack::Frame;
 
@@ -24,7 +24,7 @@ pub fn innermost(spots: &[Spot]) -> &[Spot]
 }
 
 /// Where a frame stands among places in the order of their frames, or would.
-fn position(places: &[Place], frame: Frame) -> usize {
+fn position(places: &[StandIn], frame: Frame) -> usize {
     let mut low = 0;
     let mut high = places.len();
     while low < high {
@@ -40,18 +40,18 @@ fn position(places: &[Place], frame: Frame) -> usize {
 
 /// Whether one of some places is this frame and stands for this spot. Where they aren't in the
 /// order of their frames, it may miss it.
-fn is_at(places: &[Place], frame: Frame, spot: Spot) -> bool
+fn is_at(places: &[StandIn], frame: Frame, spot: Spot) -> bool
     ensures { IsTrue result → IsAt places.now frame spot }
 {
     match places.get(position(places, frame)) {
-        Some(place) => *place == Place { frame, spot },
+        Some(place) => *place == StandIn { frame, spot },
         None => false,
     }
 }
 
 /// Whether frames of the program stand for spots of the source, one for each, before the frames of
 /// the loop.
-pub fn stand_for(places: &[Place], frames: &[Frame], spots: &[Spot]) -> bool
+pub fn stand_for(places: &[StandIn], frames: &[Frame], spots: &[Spot]) -> bool
     ensures { IsTrue result → StandFor places.now frames.now spots.now }
 {
     if frames.len() < LOOP_FRAMES || frames.len() - LOOP_FRAMES != spots.len() {
@@ -74,7 +74,7 @@ fn key_of(frame: Frame) -> u64
 }
 
 /// Whether some places are in the order of their frames. Then no two have the same one.
-pub fn are_single(places: &[Place]) -> bool
+pub fn are_single(places: &[StandIn]) -> bool
     ensures { IsTrue result → AreSingle places.now }
 {
     let mut least = 0;

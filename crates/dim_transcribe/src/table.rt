@@ -1,5 +1,5 @@
 //! The text of the table of places.
-use crate::transcript::{Key, Place};
+use crate::transcript::{Key, StandIn};
 use dim_asm::Program;
 use dim_base::{Bytes, Lid, OutOfMemory};
 use dim_log::Log;
@@ -58,7 +58,7 @@ fn put_place(
     alloc: Global,
     text: &mut Vec<u8>,
     names: &Names,
-    place: &Place,
+    place: &StandIn,
     log: &Log,
 ) -> Result<(), OutOfMemory> {
     let at = place.frame.at;

@@ -8,7 +8,7 @@ use std::alloc::{AllocError, AllocFailed};
 /// A place of the program, and the place of the source for which it stands. The function of the
 /// frame is its number in the table of the names of the program's functions.
 #[derive(Clone, Copy, Debug, PartialEq, Eq)]
-pub struct Place {
+pub struct StandIn {
     pub frame: Frame,
     pub spot: Spot,
 }
@@ -17,7 +17,7 @@ pub struct Place {
 #[derive(Drop)]
 pub struct Key {
     /// The places, in the order of their frames.
-    pub places: Vec<Place>,
+    pub places: Vec<StandIn>,
     /// For each lock of the program, its number in the log's table.
     pub locks: Vec<u32>,
 }

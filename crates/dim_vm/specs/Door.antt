@@ -90,17 +90,17 @@ IsReplyTo z (cmd.End why) reply.Ended = ⊤
 IsReplyTo z _ _ = ⊥
 
 -- the entry of a reply to a command, if it makes one
-abbrev pub entry_of : Tid → Command → Reply → Option Entry
-entry_of t (cmd.Request l s) reply.Go = Some (entry.Go t l s)
-entry_of t (cmd.Request l s) (reply.Yield named) = Some (entry.Yield t l s named.sig named.births)
-entry_of t (cmd.Request l s) reply.Took = Some (entry.Took t l s)
-entry_of t (cmd.Acquire l) reply.Got = Some (entry.Got t l)
-entry_of t (cmd.Release l) reply.Freed = Some (entry.Free t l)
-entry_of t (cmd.Try l s) reply.Took = Some (entry.Took t l s)
-entry_of t (cmd.Try l s) (reply.MissBusy holder) = Some (entry.Miss t l s (miss.Busy holder))
-entry_of t (cmd.Try l s) (reply.MissAvoid named) = Some (entry.Miss t l s (miss.Avoid named))
-entry_of t (cmd.End why) reply.Ended = Some (entry.End t why)
-entry_of t _ _ = None
+abbrev pub entry_by_reply : Tid → Command → Reply → Option Entry
+entry_by_reply t (cmd.Request l s) reply.Go = Some (entry.Go t l s)
+entry_by_reply t (cmd.Request l s) (reply.Yield named) = Some (entry.Yield t l s named.sig named.births)
+entry_by_reply t (cmd.Request l s) reply.Took = Some (entry.Took t l s)
+entry_by_reply t (cmd.Acquire l) reply.Got = Some (entry.Got t l)
+entry_by_reply t (cmd.Release l) reply.Freed = Some (entry.Free t l)
+entry_by_reply t (cmd.Try l s) reply.Took = Some (entry.Took t l s)
+entry_by_reply t (cmd.Try l s) (reply.MissBusy holder) = Some (entry.Miss t l s (miss.Busy holder))
+entry_by_reply t (cmd.Try l s) (reply.MissAvoid named) = Some (entry.Miss t l s (miss.Avoid named))
+entry_by_reply t (cmd.End why) reply.Ended = Some (entry.End t why)
+entry_by_reply t _ _ = None
 
 -- a count after one more, which stands still at the end of its type
 abbrev pub raised : ℕ → ℕ
@@ -119,7 +119,7 @@ door_after z r (Some e) = record z { own = z.own ++ e ∷ []; last = Some r; lef
 
 -- what is seen after the reply to a command
 abbrev pub told : Seen → Command → Reply → Seen
-told z cmd r = door_after z r (entry_of z.thread cmd r)
+told z cmd r = door_after z r (entry_by_reply z.thread cmd r)
 
 -- a reply at which a slice stops
 abbrev pub IsStop : Reply → Type 0

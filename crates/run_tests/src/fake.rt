@@ -7,7 +7,7 @@ ghost use Rattle.dim_rag.specs.Tables.{thread_of};
 ghost use Rattle.std.proofs.Common.{arith};
 ghost use Rattle.dim_rag.specs.declared.command.Reply.TheVariants as reply;
 ghost use Rattle.dim_rag.specs.declared.entry.Named.{Named};
-ghost use Rattle.dim_vm.specs.Door.{MayAsk, IsReplyTo, IsAcquired, mode_in, times_in, entry_of, door_after};
+ghost use Rattle.dim_vm.specs.Door.{MayAsk, IsReplyTo, IsAcquired, mode_in, times_in, entry_by_reply, door_after};
 ghost use Rattle.dim_rag.specs.History.{past, count};
 
 use dim_base::{Lid, OutOfMemory, Tid};
@@ -65,8 +65,8 @@ fn append(entries: &mut Vec<Entry>, e: Entry)
 }
 
 /// The entry of a reply to a command, if it makes one.
-fn entry_of(t: Tid, cmd: Command, reply: &Reply) -> Option<Entry>
-    ensures entry { result ≡ entry_of t cmd reply.now }
+fn entry_by_reply(t: Tid, cmd: Command, reply: &Reply) -> Option<Entry>
+    ensures entry { result ≡ entry_by_reply t cmd reply.now }
     ensures thread { IfSome result (λ e. thread_of e ≡ Some t) }
 {
     match cmd {
@@ -298,7 +298,7 @@ impl Door for Fake {
 
     fn ask(&mut self, cmd: Command) -> Reply {
         let reply = self.choose(&cmd);
-        let entry = entry_of(self.thread, cmd, &reply);
+        let entry = entry_by_reply(self.thread, cmd, &reply);
         self.note(&reply, entry);
         reply
     }

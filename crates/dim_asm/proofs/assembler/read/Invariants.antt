@@ -3,7 +3,7 @@ use Rattle.dim_text.specs.Reading.{read_from}
 use Rattle.dim_asm.specs.Faults.{fault}
 use Rattle.dim_asm.specs.Judging.{step, at_end, source_of}
 use Rattle.dim_asm.specs.Spelling.{lines_so_far}
-use Rattle.dim_asm.specs.Grammar.{Fits}
+use Rattle.dim_asm.specs.Grammar.{FitsStage}
 use Rattle.dim_asm.specs.Reader.{read, state_of, IsCounted}
 use Rattle.dim_asm.proofs.assembler.read.Given as goal
 
@@ -11,7 +11,7 @@ abbrev pub invariant-loop-line : goal.invariant-loop-line
 invariant-loop-line l = record {
   same : read_from fault step at_end (state_of l.reader) l.number l.lines ≡ source_of l.bytes;
   counted : IsCounted l.reader;
-  fits : Fits (state_of l.reader);
+  fits : FitsStage (state_of l.reader);
   number : l.number ≡ 1 + length (lines_so_far l.reader.stage (read l.reader));
 }
 

@@ -6,7 +6,7 @@ use Rattle.dim_stack.specs.Names.{table_of, HasNames}
 use Rattle.dim_history_file.specs.Faults.{fault, fault_of}
 use Rattle.dim_history_file.specs.Judging.{step, at_end, start, history_of}
 use Rattle.dim_history_file.specs.Spelling.{lines_so_far}
-use Rattle.dim_history_file.specs.Grammar.{Fits}
+use Rattle.dim_history_file.specs.Grammar.{FitsStage}
 use Rattle.dim_history_file.specs.Naming.{names_in, names_in_line, names_in_lines}
 use Rattle.dim_history_file.specs.Reader.{sigs_of, state_of}
 use Rattle.dim_history_file.proofs.Endings.{last_ends, failing, going_on, judged_end, good_end, exits}
@@ -23,7 +23,7 @@ loop-line-init c =
       same = ap (λ s. read_from fault step at_end s 1 c.lines-lines.result) state ∙ ap (read_from fault step at_end start 1) c.lines-lines.ensures;
       names = names;
       reading = c.new-reader.ensures.reading;
-      fits = subst Fits (sym state) fits_start;
+      fits = subst FitsStage (sym state) fits_start;
       covers = subst (λ t. HasNames t (names_in_lines c.lines-lines.result)) (sym names) (subst (λ ls. HasNames (table_of (names_in bytes)) (names_in_lines ls)) (sym c.lines-lines.ensures) (has_all (names_in bytes)));
       number = ap (λ s. 1 + length (lines_so_far s)) (sym state);
     }

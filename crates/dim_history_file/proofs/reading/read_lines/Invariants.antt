@@ -4,7 +4,7 @@ use Rattle.dim_stack.specs.Names.{table_of, HasNames}
 use Rattle.dim_history_file.specs.Faults.{fault}
 use Rattle.dim_history_file.specs.Judging.{step, at_end, history_of}
 use Rattle.dim_history_file.specs.Spelling.{lines_so_far}
-use Rattle.dim_history_file.specs.Grammar.{Fits}
+use Rattle.dim_history_file.specs.Grammar.{FitsStage}
 use Rattle.dim_history_file.specs.Naming.{names_in, names_in_lines}
 use Rattle.dim_history_file.specs.Reader.{IsReading, state_of}
 use Rattle.dim_history_file.proofs.reading.read_lines.Given as goal
@@ -14,7 +14,7 @@ invariant-loop-line l = record {
   same : read_from fault step at_end (state_of l.reader) l.number l.lines ≡ history_of l.bytes;
   names : l.reader.names ≡ table_of (names_in l.bytes);
   reading : IsReading l.reader;
-  fits : Fits (state_of l.reader);
+  fits : FitsStage (state_of l.reader);
   covers : HasNames l.reader.names (names_in_lines l.lines);
   number : l.number ≡ 1 + length (lines_so_far (state_of l.reader));
 }
