@@ -23,6 +23,8 @@ ROOT = pathlib.Path(__file__).resolve().parent.parent
 PROGRAM = sys.argv[1] if len(sys.argv) > 1 else "dim"
 OUT = ROOT / "crates" / PROGRAM / "out"
 LOG = OUT / "build.log"
+# By how much the priority of what is proved in a copy is lower: a third of the time, so that the chain isn't held up by what it needs next.
+LOWER = 5
 # What a proof takes with one job, and for each further one.
 BYTES, BYTES_MORE = 2_500_000_000, 1_500_000_000
 
@@ -124,7 +126,7 @@ class Build:
     def start(self, name, folder, jobs):
         words = ["rt", "run", "--", "--build"] if name == PROGRAM else ["rt", "lib", "--jobs", str(jobs)]
         if folder != ROOT:
-            words = ["nice", "-n", "10", *words]
+            words = ["nice", "-n", str(LOWER), *words]
             for below in crates_below(name):
                 hand_on(below, "rlib", ROOT, folder)
             hand_on(name, "incremental", ROOT, folder)

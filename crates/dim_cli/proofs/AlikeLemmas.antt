@@ -1,11 +1,11 @@
 -- Two commands that report on what was judged refuse alike.
 use Rattle.std.proofs.Common.{◌≡◌, List, Result, Ok, Err, ap}
 use Rattle.dim_base.specs.Files.{Named}
-use Rattle.dim_commands.specs.declared.report.Report.{Report}
+use Rattle.dim_inquiry.specs.declared.report.Report.{Report}
 use Rattle.dim_words.specs.Words.{CheckWords}
-use Rattle.dim_commands.specs.declared.stop.Refusal.{Refusal}
-use Rattle.dim_commands.specs.Course.{Call, go_on, gives}
-use Rattle.dim_commands.specs.Judging.{Given, judged_course, reports_on}
+use Rattle.dim_inquiry.specs.declared.stop.Refusal.{Refusal}
+use Rattle.dim_inquiry.specs.Course.{Call, go_on, gives}
+use Rattle.dim_inquiry.specs.Judging.{Given, judged_course, reports_on}
 
 -- two commands that report on it refuse alike
 refused : (calls : List Call) (ending : Result Given Refusal) (f g : Given → Report) (r : Refusal) → (go_on calls ending (λ x. gives (f x))).ending ≡ Err r → (go_on calls ending (λ x. gives (g x))).ending ≡ Err r

@@ -20,7 +20,7 @@ use Rattle.dim_signature.specs.Sig.{Sig, counted}
 use Rattle.dim_execution.specs.Start.{gate_of}
 use Rattle.dim_run.specs.declared.playing.Outcome.{Outcome}
 use Rattle.dim_run.specs.declared.playing.Outcome.TheVariants.{Finished, Deadlocked, Stalled}
-use Rattle.dim_run.specs.declared.settings.Settings.{Settings}
+use Rattle.dim_schedule.specs.declared.settings.Settings.{Settings}
 use Rattle.dim_run.specs.Crew.{rules_of}
 use Rattle.dim_run.specs.Grown.{grown, yields_of}
 use Rattle.dim_run.specs.Learnt.{AreLearnt}
@@ -29,18 +29,20 @@ use Rattle.dim_run.specs.Run.{outcome_by}
 use Rattle.dim_run.proofs.Exports.{learnt_law, outcome_law}
 use Rattle.dim_tune.specs.Attempts.{sigs_after}
 use Rattle.dim_words.specs.Words.{RunWords, is_dash}
-use Rattle.dim_commands.specs.declared.report.Report.{Report}
-use Rattle.dim_commands.specs.declared.stop.Place.TheVariants.{Program}
-use Rattle.dim_commands.specs.declared.stop.Refusal.{Refusal}
-use Rattle.dim_commands.specs.declared.stop.Refusal.TheVariants.{BadHistory, Full}
-use Rattle.dim_commands.specs.Course.{Call, Course, go_on, fetches, ends, gives, refusing, ◌>>=◌}
+use Rattle.dim_inquiry.specs.declared.report.Report.{Report}
+use Rattle.dim_inquiry.specs.declared.stop.Place.TheVariants.{Program}
+use Rattle.dim_inquiry.specs.declared.stop.Refusal.{Refusal}
+use Rattle.dim_inquiry.specs.declared.stop.Refusal.TheVariants.{BadHistory, Full}
+use Rattle.dim_inquiry.specs.Course.{Call, Course, go_on, fetches, ends, gives, refusing, ◌>>=◌}
 use Rattle.dim_commands.specs.Immunize.{sigs_at, entries_at, AreLawful}
 use Rattle.dim_commands.specs.Lawful.{IsLawful, IsLawfulFrom}
-use Rattle.dim_commands.specs.Output.{Inputs, Left, names_of, program_of, loaded_of, grown_from}
-use Rattle.dim_commands.specs.Report.{ending_of, status_of}
+use Rattle.dim_inquiry.specs.Inputs.{Inputs, names_of, program_of, loaded_of}
+use Rattle.dim_commands.specs.Output.{Left, grown_from}
+use Rattle.dim_inquiry.specs.Report.{status_of}
+use Rattle.dim_commands.specs.Report.{ending_of}
 use Rattle.dim_commands.specs.Run.{course_with, stores_left}
-use Rattle.dim_commands.specs.Taking.{assembles, reads, loads, takes, fetches_history, fetches_inputs, IsUnder}
-use Rattle.dim_commands.proofs.Exports.{under, inputs, behind_read, behind_assembled}
+use Rattle.dim_inquiry.specs.Taking.{assembles, reads, loads, takes, fetches_history, fetches_inputs, IsUnder}
+use Rattle.dim_inquiry.proofs.Exports.{under, inputs, behind_read, behind_assembled}
 use Rattle.dim_cli.specs.ByPlaces.{TellsCycles, ByPlaces}
 use Rattle.dim_cli.specs.Headline.{outcome_status}
 

@@ -7,8 +7,9 @@ use Rattle.dim_history_file.specs.Spelling.{history_text}
 use Rattle.dim_rag.specs.declared.entry.Entry.{Entry}
 use Rattle.dim_words.specs.Words.{ImmunizeWords}
 use Rattle.dim_commands.specs.Immunize.{last_of, sigs_at, entries_at, history_at, AreLawful}
-use Rattle.dim_commands.specs.Output.{Inputs, trace_by}
-use Rattle.dim_commands.specs.Taking.{IsUnder}
+use Rattle.dim_inquiry.specs.Inputs.{Inputs}
+use Rattle.dim_commands.specs.Output.{trace_by}
+use Rattle.dim_inquiry.specs.Taking.{IsUnder}
 use Rattle.dim_cli.specs.ByPlaces.{ByPlaces}
 use Rattle.dim_cli.specs.Headline.{outcome_status, Comes}
 

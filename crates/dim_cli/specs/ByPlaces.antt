@@ -6,11 +6,12 @@ use Rattle.dim_rag.specs.declared.entry.Entry.{Entry}
 use Rattle.dim_rag.specs.History.{past}
 use Rattle.dim_signature.specs.Sig.{Sig}
 use Rattle.dim_execution.specs.Start.{gate_of}
-use Rattle.dim_run.specs.declared.settings.Settings.{Settings}
+use Rattle.dim_schedule.specs.declared.settings.Settings.{Settings}
 use Rattle.dim_run.specs.Grown.{grown}
 use Rattle.dim_run.specs.Learnt.{AreLearnt}
 use Rattle.dim_run.specs.Outcome.{HasCycle, HaveEnded}
-use Rattle.dim_commands.specs.Output.{Inputs, program_of, grown_from}
+use Rattle.dim_inquiry.specs.Inputs.{Inputs, program_of}
+use Rattle.dim_commands.specs.Output.{grown_from}
 
 -- The status that goes with a history of n threads, where the report could be put: 3 exactly where
 -- a cycle stands at its end; where none does, 0 exactly where each thread has ended, and else 4.

@@ -1,20 +1,20 @@
 -- What words ask for.
 use Rattle.std.specs.Prelude.{ℕ, List, Err}
 use Rattle.dim_base.specs.Files.{Named}
-use Rattle.dim_commands.specs.declared.report.Report.{Report}
-use Rattle.dim_commands.specs.declared.stop.Refusal.TheVariants as refusals
+use Rattle.dim_inquiry.specs.declared.report.Report.{Report}
+use Rattle.dim_inquiry.specs.declared.stop.Refusal.TheVariants as refusals
 use Rattle.dim_words.specs.Words.{Asked, Run, Live, Check, Why, Depths, Predict, Show, Generate, Switch, Immunize}
 use Rattle.dim_cli.specs.Quiet.{quiet_command}
-use Rattle.dim_commands.specs.Course.{Course, ◌>>=◌, ends, wants}
+use Rattle.dim_inquiry.specs.Course.{Course, ◌>>=◌, ends, wants}
 use Rattle.dim_commands.specs.Run.{run_course}
 use Rattle.dim_commands.specs.Immunize.{immunize_course}
-use Rattle.dim_commands.specs.Check.{check_course}
-use Rattle.dim_commands.specs.Why.{why_course}
+use Rattle.dim_inquiry.specs.Check.{check_course}
+use Rattle.dim_inquiry.specs.Why.{why_course}
 use Rattle.dim_commands.specs.Depths.{depths_course}
-use Rattle.dim_commands.specs.Predict.{predict_course}
-use Rattle.dim_commands.specs.Show.{show_course}
+use Rattle.dim_inquiry.specs.Predict.{predict_course}
+use Rattle.dim_inquiry.specs.Show.{show_course}
 use Rattle.dim_commands.specs.Generate.{generate_course}
-use Rattle.dim_commands.specs.Switch.{switch_course}
+use Rattle.dim_inquiry.specs.Switch.{switch_course}
 
 -- what is asked for by a call that waits for nothing
 abbrev pub course_of : Named → Asked → Course Report

@@ -6,10 +6,10 @@ use Rattle.dim_history_file.specs.Faults.{kind_number as file_kind_number}
 use Rattle.dim_trace.specs.declared.verdict.Rule.{Rule}
 use Rattle.dim_trace.specs.declared.verdict.Rule.TheVariants as rule
 use Rattle.dim_trace.specs.Faults.{kind_number as trace_kind_number}
-use Rattle.dim_commands.specs.declared.stop.Place.{Place}
-use Rattle.dim_commands.specs.declared.stop.Place.TheVariants as places
-use Rattle.dim_commands.specs.declared.stop.Refusal.{Refusal}
-use Rattle.dim_commands.specs.declared.stop.Refusal.TheVariants as refusals
+use Rattle.dim_inquiry.specs.declared.stop.Place.{Place}
+use Rattle.dim_inquiry.specs.declared.stop.Place.TheVariants as places
+use Rattle.dim_inquiry.specs.declared.stop.Refusal.{Refusal}
+use Rattle.dim_inquiry.specs.declared.stop.Refusal.TheVariants as refusals
 
 abbrev pub place_word : Place → List ℕ
 place_word places.Program = codes "program"

@@ -2,7 +2,7 @@
 use Rattle.std.specs.Prelude.{◌≡◌, ℕ, length, Ok}
 use Rattle.dim_base.specs.Files.{Named}
 use Rattle.dim_words.specs.Words.{RunWords, CheckWords}
-use Rattle.dim_commands.specs.Check.{checked, check_course}
+use Rattle.dim_inquiry.specs.Check.{checked, check_course}
 use Rattle.dim_cli.specs.Headline.{Headline, IsGood}
 
 -- the check of what a run with these words has stored

@@ -15,7 +15,7 @@ use Rattle.dim_events.specs.Kinds.{totals_of}
 use Rattle.dim_gate.specs.Kinds.{kind_of}
 use Rattle.dim_execution.specs.Executes.{Executes}
 use Rattle.dim_execution.specs.Start.{gate_of}
-use Rattle.dim_run.specs.declared.settings.Settings.{Settings}
+use Rattle.dim_schedule.specs.declared.settings.Settings.{Settings}
 use Rattle.dim_run.specs.Complete.{IsComplete}
 use Rattle.dim_run.specs.Crew.{rules_of}
 use Rattle.dim_run.specs.Grown.{grown}
@@ -25,10 +25,11 @@ use Rattle.dim_tune.specs.declared.attempt.KeptImmunized.{KeptImmunized}
 use Rattle.dim_tune.specs.Attempts.{attempts_of, sigs_after, AreAttempts}
 use Rattle.dim_tune.specs.Laws.{AllGrownLaw}
 use Rattle.dim_tune.specs.Runs.{IsKeptRun}
-use Rattle.dim_commands.specs.declared.report.Report.{Report}
+use Rattle.dim_inquiry.specs.declared.report.Report.{Report}
 use Rattle.dim_commands.specs.Immunize.{last_of, sigs_at, entries_at, history_at, behind_attempts, attempts_report, report_at, left_at, attempts_left, AreLawful}
 use Rattle.dim_commands.specs.Lawful.{ReadsBack}
-use Rattle.dim_commands.specs.Output.{Inputs, Left, names_of, program_of, loaded_of, trace_by}
+use Rattle.dim_inquiry.specs.Inputs.{Inputs, names_of, program_of, loaded_of}
+use Rattle.dim_commands.specs.Output.{Left, trace_by}
 use Rattle.dim_commands.specs.Report.{ran}
 use Rattle.dim_commands.proofs.LastLemmas.{last_is}
 use Rattle.dim_commands.proofs.StoreLemmas.{left_with}

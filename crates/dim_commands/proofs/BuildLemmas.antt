@@ -11,7 +11,7 @@ use Rattle.dim_gate.specs.Immune.{IsImmune}
 use Rattle.dim_gate.specs.Known.{known_sigs}
 use Rattle.dim_run.specs.declared.finish.Last.{Last}
 use Rattle.dim_run.specs.declared.playing.Outcome.{Outcome}
-use Rattle.dim_run.specs.declared.settings.Settings.{Settings}
+use Rattle.dim_schedule.specs.declared.settings.Settings.{Settings}
 use Rattle.dim_run.specs.Crew.{rules_of}
 use Rattle.dim_run.specs.Complete.{IsComplete}
 use Rattle.dim_run.specs.Grown.{grown}
@@ -19,7 +19,8 @@ use Rattle.dim_execution.specs.Executes.{Executes}
 use Rattle.dim_execution.specs.Start.{gate_of}
 use Rattle.dim_run.specs.Run.{played, outcome_of, ends_after}
 use Rattle.dim_trace.specs.Text.{trace_text}
-use Rattle.dim_commands.specs.Output.{Inputs, names_of, program_of, loaded_of, entries_of, grown_by, new_history, trace, run_report}
+use Rattle.dim_inquiry.specs.Inputs.{Inputs, names_of, program_of, loaded_of}
+use Rattle.dim_commands.specs.Output.{entries_of, grown_by, new_history, trace, run_report}
 use Rattle.dim_commands.specs.Report.{ran}
 use Rattle.dim_commands.specs.Lawful.{IsLawful, ReadsBack}
 use Rattle.dim_commands.proofs.GrownLemmas.{grown_length}

@@ -7,24 +7,25 @@ use Rattle.dim_signature.specs.Sig.{Sig}
 use Rattle.dim_history_file.specs.declared.history.History.{History}
 use Rattle.dim_history_file.specs.Grammar.{AreNear}
 use Rattle.dim_history_file.specs.Value.{named, names_used, NamedSig}
-use Rattle.dim_commands.specs.Inputs.{IsRead}
-use Rattle.dim_commands.specs.declared.report.Report.{Report}
-use Rattle.dim_commands.specs.declared.stop.Place.TheVariants.{Program}
-use Rattle.dim_commands.specs.declared.stop.Stop.{Stop}
-use Rattle.dim_commands.specs.declared.stop.Stop.TheVariants as stops
-use Rattle.dim_commands.specs.Course.{Stops, Runs, stores, gives}
+use Rattle.dim_inquiry.specs.Inputs.{IsRead}
+use Rattle.dim_inquiry.specs.declared.report.Report.{Report}
+use Rattle.dim_inquiry.specs.declared.stop.Place.TheVariants.{Program}
+use Rattle.dim_inquiry.specs.declared.stop.Stop.{Stop}
+use Rattle.dim_inquiry.specs.declared.stop.Stop.TheVariants as stops
+use Rattle.dim_inquiry.specs.Course.{Stops, Runs, stores, gives}
 use Rattle.dim_commands.specs.Generate.{generate_course, generated_report, generated_inputs}
 use Rattle.dim_generate.specs.Generated.{generated_text, generated_program}
-use Rattle.dim_commands.proofs.CourseLemmas.{Stops-first}
+use Rattle.dim_inquiry.proofs.Exports.{Stops-first}
 use Rattle.dim_asm.specs.declared.fault.AsmFault.{AsmFault}
 use Rattle.dim_asm.specs.Assembling.{program_of}
 use Rattle.dim_asm.specs.Bound.{bound, own_names}
 use Rattle.dim_asm.specs.Code.{Code}
 use Rattle.dim_asm.specs.Printing.{program_text}
 use Rattle.dim_generate.proofs.Exports.{assembled_again}
-use Rattle.dim_commands.specs.declared.report.Ending.TheVariants.{Done}
+use Rattle.dim_inquiry.specs.declared.report.Ending.TheVariants.{Done}
 use Rattle.dim_words.specs.Words.{default_settings}
-use Rattle.dim_commands.specs.Output.{Inputs, run_report}
+use Rattle.dim_inquiry.specs.Inputs.{Inputs}
+use Rattle.dim_commands.specs.Output.{run_report}
 
 pub text_is : (n : ℕ) (bytes : List ℕ) → bytes ≡ program_text (generated_program n) → bytes ≡ generated_text n
 unfolding generated_text

@@ -2,14 +2,14 @@
 use Rattle.std.proofs.Common.{◌≡◌, Option, Result, Ok, Err, OnOk, false}
 use Rattle.std.specs.Str.{bytes_eq}
 use Rattle.dim_base.specs.Files.{Named}
-use Rattle.dim_commands.specs.declared.report.Report.{Report}
-use Rattle.dim_commands.specs.declared.stop.Stop.{Stop}
+use Rattle.dim_inquiry.specs.declared.report.Report.{Report}
+use Rattle.dim_inquiry.specs.declared.stop.Stop.{Stop}
 use Rattle.dim_words.specs.Words.{ImmunizeWords}
-use Rattle.dim_commands.specs.Course.{Runs, WhereTold}
+use Rattle.dim_inquiry.specs.Course.{Runs, WhereTold}
 use Rattle.dim_commands.specs.Immunize.{last_of, attempts_left, AreLawful, Immunized}
-use Rattle.dim_commands.specs.Output.{Inputs}
+use Rattle.dim_inquiry.specs.Inputs.{Inputs}
 use Rattle.dim_commands.specs.Run.{stores_left}
-use Rattle.dim_commands.specs.Taking.{IsTaken}
+use Rattle.dim_inquiry.specs.Taking.{IsTaken}
 use Rattle.dim_commands.proofs.RunLemmas.{IsGot, ends_so}
 use Rattle.dim_commands.proofs.StoreLemmas.{both_stored}
 

@@ -7,11 +7,11 @@ use Rattle.dim_history_file.specs.Spelling.{history_text}
 use Rattle.dim_history_file.specs.Value.{named}
 use Rattle.dim_run.specs.declared.playing.Outcome.{Outcome}
 use Rattle.dim_run.specs.declared.playing.Outcome.TheVariants as outcomes
-use Rattle.dim_run.specs.declared.settings.Settings.{Settings}
+use Rattle.dim_schedule.specs.declared.settings.Settings.{Settings}
 use Rattle.dim_tune.specs.declared.attempt.Attempt.{Attempt}
 use Rattle.dim_tune.specs.Attempts.{attempt_after, AreAttempts, AreLoadable, HasLearnt, IsFollowed}
 use Rattle.dim_commands.specs.Immunize.{is_deadlocked, has_learnt, are_loadable, goes_on, last_from, last_of, sigs_at}
-use Rattle.dim_commands.specs.Output.{Inputs, names_of, program_of, loaded_of}
+use Rattle.dim_inquiry.specs.Inputs.{Inputs, names_of, program_of, loaded_of}
 
 -- ---- reason for one more
 

@@ -1,24 +1,11 @@
 pub mod AttemptLemmas
 pub mod BuildLemmas
-pub mod CallLemmas
-pub mod CheckLemmas
-pub mod CourseLemmas
-pub mod Exports
-pub mod FetchLemmas
 pub mod GenerateLemmas
 pub mod GrownLemmas
 pub mod ImmunizeLemmas
-pub mod InputLemmas
 pub mod LastLemmas
 pub mod LiveLemmas
-pub mod PredictLemmas
-pub mod ReadNames
-pub mod ReportLemmas
-pub mod ReportedLemmas
 pub mod RunLemmas
-pub mod ShowLemmas
 pub mod SpelledLemmas
 pub mod StoreLemmas
-pub mod SwitchLemmas
 mod TellingLemmas
-pub mod UnderLemmas

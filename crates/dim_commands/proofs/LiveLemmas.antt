@@ -12,7 +12,7 @@ use Rattle.dim_gate.specs.Immune.{IsImmune}
 use Rattle.dim_gate.specs.Known.{known_sigs}
 use Rattle.dim_run.specs.declared.finish.Last.{Last}
 use Rattle.dim_run.specs.declared.playing.Outcome.{Outcome}
-use Rattle.dim_run.specs.declared.settings.Settings.{Settings}
+use Rattle.dim_schedule.specs.declared.settings.Settings.{Settings}
 use Rattle.dim_run.specs.Crew.{rules_of}
 use Rattle.dim_run.specs.Complete.{IsComplete}
 use Rattle.dim_execution.specs.Executes.{Executes}
@@ -22,23 +22,24 @@ use Rattle.dim_run.specs.Grown.{grown}
 use Rattle.dim_run.specs.Living.{by_threads}
 use Rattle.dim_run.specs.Run.{outcome_of, ends_after}
 use Rattle.dim_trace.specs.Text.{trace_text}
-use Rattle.dim_commands.specs.declared.report.Report.{Report}
-use Rattle.dim_commands.specs.declared.stop.Place.TheVariants.{Program, History}
-use Rattle.dim_commands.specs.declared.stop.Stop.{Stop}
-use Rattle.dim_commands.specs.declared.stop.Stop.TheVariants as stops
+use Rattle.dim_inquiry.specs.declared.report.Report.{Report}
+use Rattle.dim_inquiry.specs.declared.stop.Place.TheVariants.{Program, History}
+use Rattle.dim_inquiry.specs.declared.stop.Stop.{Stop}
+use Rattle.dim_inquiry.specs.declared.stop.Stop.TheVariants as stops
 use Rattle.dim_words.specs.Words.{RunWords, is_dash}
-use Rattle.dim_commands.specs.Output.{Inputs, empty_history, names_of, program_of, loaded_of, grown_by, left_by}
-use Rattle.dim_commands.specs.Course.{Call, Course, Stops, Runs, WhereTold, go_on, ends, fetches, gives}
-use Rattle.dim_commands.specs.Taking.{fetches_history, fetches_inputs, assembles, reads, loads, takes, IsTaken}
+use Rattle.dim_inquiry.specs.Inputs.{Inputs, empty_history, names_of, program_of, loaded_of}
+use Rattle.dim_commands.specs.Output.{grown_by, left_by}
+use Rattle.dim_inquiry.specs.Course.{Call, Course, Stops, Runs, WhereTold, go_on, ends, fetches, gives}
+use Rattle.dim_inquiry.specs.Taking.{fetches_history, fetches_inputs, assembles, reads, loads, takes, IsTaken}
 use Rattle.dim_commands.specs.Report.{ran}
 use Rattle.dim_commands.specs.Lawful.{IsLawful, ReadsBack}
 use Rattle.dim_commands.specs.Live.{IsLived, IsMade, LiveStored, IsEarly, Lives}
 use Rattle.dim_commands.proofs.GrownLemmas.{grown_length}
-use Rattle.dim_commands.proofs.UnderLemmas.{there, under}
+use Rattle.dim_inquiry.proofs.Exports.{there, under}
 use Rattle.dim_commands.proofs.RunLemmas.{IsGot, at_stores, ends_so}
 use Rattle.dim_commands.proofs.StoreLemmas.{both_stored}
-use Rattle.dim_commands.specs.declared.stop.Refusal.{Refusal}
-use Rattle.dim_commands.specs.declared.stop.Refusal.TheVariants.{Full}
+use Rattle.dim_inquiry.specs.declared.stop.Refusal.{Refusal}
+use Rattle.dim_inquiry.specs.declared.stop.Refusal.TheVariants.{Full}
 use Rattle.dim_commands.specs.Run.{stores_left}
 use Rattle.std.specs.Str.{bytes_eq}
 use Rattle.std.specs.Prelude.{◌||◌}

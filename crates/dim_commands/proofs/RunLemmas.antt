@@ -2,16 +2,17 @@
 use Rattle.std.proofs.Common.{◌≡◌, [], Option, Some, Result, Ok, Err, OnOk, false, refl, sym, subst}
 use Rattle.std.specs.Str.{bytes_eq}
 use Rattle.dim_base.specs.Files.{Named, with_file}
-use Rattle.dim_commands.specs.declared.report.Report.{Report}
-use Rattle.dim_commands.specs.declared.stop.Stop.{Stop}
-use Rattle.dim_commands.specs.declared.stop.Stop.TheVariants as stops
+use Rattle.dim_inquiry.specs.declared.report.Report.{Report}
+use Rattle.dim_inquiry.specs.declared.stop.Stop.{Stop}
+use Rattle.dim_inquiry.specs.declared.stop.Stop.TheVariants as stops
 use Rattle.dim_words.specs.Words.{RunWords}
-use Rattle.dim_commands.specs.Output.{Inputs, Left, entries_of, played_left}
-use Rattle.dim_commands.specs.Course.{Course, Stops, Runs, WhereTold, after_calls}
+use Rattle.dim_inquiry.specs.Inputs.{Inputs}
+use Rattle.dim_commands.specs.Output.{Left, entries_of, played_left}
+use Rattle.dim_inquiry.specs.Course.{Course, Stops, Runs, WhereTold, after_calls}
 use Rattle.dim_commands.specs.Lawful.{IsLawful}
-use Rattle.dim_commands.specs.Taking.{fetches_inputs, IsTaken}
+use Rattle.dim_inquiry.specs.Taking.{fetches_inputs, IsTaken}
 use Rattle.dim_commands.specs.Run.{course_with, stores_left, Stored}
-use Rattle.dim_commands.proofs.CourseLemmas.{unchanged, Stops-first, Runs-behind}
+use Rattle.dim_inquiry.proofs.Exports.{unchanged, Stops-first, Runs-behind}
 use Rattle.dim_commands.proofs.StoreLemmas.{at_report as at_last, both_stored}
 
 -- what was read of these files, which are as they were

@@ -1,15 +1,15 @@
 -- How far the storing of what a run leaves came.
 use Rattle.std.proofs.Common.{◌≡◌, ℕ, List, Option, Some, Ok, Err, refl, ap, ◌∙◌}
 use Rattle.dim_base.specs.Files.{Named, with_file}
-use Rattle.dim_commands.specs.declared.report.Report.{Report}
-use Rattle.dim_commands.specs.declared.stop.Place.TheVariants.{NewHistory, Trace}
-use Rattle.dim_commands.specs.declared.stop.Stop.{Stop}
+use Rattle.dim_inquiry.specs.declared.report.Report.{Report}
+use Rattle.dim_inquiry.specs.declared.stop.Place.TheVariants.{NewHistory, Trace}
+use Rattle.dim_inquiry.specs.declared.stop.Stop.{Stop}
 use Rattle.dim_commands.specs.declared.storing.Output.{Output}
 use Rattle.dim_commands.specs.Output.{Left}
-use Rattle.dim_commands.specs.Course.{Course, Stops, Runs, stores, gives, ◌>>=◌}
-use Rattle.dim_commands.specs.Inputs.{left_of}
+use Rattle.dim_inquiry.specs.Course.{Course, Stops, Runs, stores, gives, ◌>>=◌}
+use Rattle.dim_commands.specs.Output.{left_of}
 use Rattle.dim_commands.specs.Run.{stores_left}
-use Rattle.dim_commands.proofs.CourseLemmas.{Stops-first, Runs-behind}
+use Rattle.dim_inquiry.proofs.Exports.{Stops-first, Runs-behind}
 
 module _ (files : Named) (new_history trace : List ℕ) (left : Left) where
   abbrev behind : Unit {0} → Course Report

@@ -6,9 +6,9 @@ use Rattle.std.proofs.lemmas.List.{length-map}
 use Rattle.std.proofs.lemmas.Option.{slice_get-map}
 use Rattle.std.proofs.lemmas.Slice.Zip.{length-zip}
 use Rattle.dim_signature.specs.Sig.{Sig}
-use Rattle.dim_commands.specs.Report.{by_number}
+use Rattle.dim_inquiry.specs.Report.{by_number}
 use Rattle.dim_commands.specs.Depths.{depth_line}
-use Rattle.dim_commands.proofs.ReportLemmas.{by_number_more}
+use Rattle.dim_inquiry.proofs.Exports.{by_number_more}
 
 zip_at : {X Y : Type 0} (xs : List X) (ys : List Y) (i : ℕ) (x : X) (y : Y) → slice_get xs i ≡ Some x → slice_get ys i ≡ Some y → slice_get (zip xs ys) i ≡ Some (x, y)
 zip_at [] ys i x y p q = absurd (let e : None ≡ Some x = p in cc)

@@ -9,11 +9,11 @@ use Rattle.dim_signature.specs.Sig.{Sig}
 use Rattle.dim_tune.specs.Depths.{AreLeastDepths}
 use Rattle.dim_tune.specs.Found.{least_depths}
 use Rattle.dim_words.specs.Words.{CheckWords}
-use Rattle.dim_commands.specs.declared.report.Report.{Report}
-use Rattle.dim_commands.specs.declared.report.Ending.TheVariants as endings
-use Rattle.dim_commands.specs.Course.{Course}
-use Rattle.dim_commands.specs.Judging.{Given, judged_course, reports_on}
-use Rattle.dim_commands.specs.Report.{by_number}
+use Rattle.dim_inquiry.specs.declared.report.Report.{Report}
+use Rattle.dim_inquiry.specs.declared.report.Ending.TheVariants as endings
+use Rattle.dim_inquiry.specs.Course.{Course}
+use Rattle.dim_inquiry.specs.Judging.{Given, judged_course, reports_on}
+use Rattle.dim_inquiry.specs.Report.{by_number}
 
 -- the line of a signature: its number, its depth, and the least depth at which a trace is legal
 unfoldable pub depth_line : ℕ → ℕ × ℕ → List ℕ

@@ -1,13 +1,14 @@
 -- `generate`.
 use Rattle.std.specs.Prelude.{ℕ, List, []}
 use Rattle.dim_asm.specs.Bound.{bound, own_names}
-use Rattle.dim_commands.specs.declared.report.Report.{Report}
-use Rattle.dim_commands.specs.declared.report.Ending.TheVariants.{Done}
+use Rattle.dim_inquiry.specs.declared.report.Report.{Report}
+use Rattle.dim_inquiry.specs.declared.report.Ending.TheVariants.{Done}
 use Rattle.dim_words.specs.Words.{default_settings}
-use Rattle.dim_commands.specs.Output.{Inputs, run_report}
-use Rattle.dim_commands.specs.declared.stop.Place.TheVariants.{Program}
+use Rattle.dim_inquiry.specs.Inputs.{Inputs}
+use Rattle.dim_commands.specs.Output.{run_report}
+use Rattle.dim_inquiry.specs.declared.stop.Place.TheVariants.{Program}
 use Rattle.dim_generate.specs.Generated.{generated_text, generated_program}
-use Rattle.dim_commands.specs.Course.{Course, ◌>>=◌, gives, stores}
+use Rattle.dim_inquiry.specs.Course.{Course, ◌>>=◌, gives, stores}
 
 -- what its run reads: the program as its text says it, and no signature
 unfoldable pub generated_inputs : ℕ → Inputs

@@ -11,20 +11,22 @@ use Rattle.dim_rag.specs.declared.entry.Entry.{Entry}
 use Rattle.dim_signature.specs.Sig.{Sig, counted}
 use Rattle.dim_run.specs.declared.playing.Outcome.{Outcome}
 use Rattle.dim_run.specs.declared.playing.Outcome.TheVariants as outcomes
-use Rattle.dim_run.specs.declared.settings.Settings.{Settings}
+use Rattle.dim_schedule.specs.declared.settings.Settings.{Settings}
 use Rattle.dim_run.specs.Run.{ends_after, outcome_of, played}
 use Rattle.dim_tune.specs.declared.attempt.Attempt.{Attempt}
 use Rattle.dim_tune.specs.Attempts.{attempt_after, attempts_of, sigs_after, AreAttempts}
 use Rattle.dim_tune.specs.Laws.{all_yields_of}
 use Rattle.dim_words.specs.Words.{ImmunizeWords}
-use Rattle.dim_commands.specs.declared.report.Report.{Report}
-use Rattle.dim_commands.specs.declared.stop.Place.TheVariants.{Program}
-use Rattle.dim_commands.specs.Course.{file_at, Course}
+use Rattle.dim_inquiry.specs.declared.report.Report.{Report}
+use Rattle.dim_inquiry.specs.declared.stop.Place.TheVariants.{Program}
+use Rattle.dim_inquiry.specs.Course.{file_at, Course}
 use Rattle.dim_commands.specs.Lawful.{IsLawfulFrom}
-use Rattle.dim_commands.specs.Output.{Inputs, Left, names_of, program_of, loaded_of, trace_by}
-use Rattle.dim_commands.specs.Report.{by_number, outcome_word, ran}
+use Rattle.dim_inquiry.specs.Inputs.{Inputs, names_of, program_of, loaded_of}
+use Rattle.dim_commands.specs.Output.{Left, trace_by}
+use Rattle.dim_inquiry.specs.Report.{by_number}
+use Rattle.dim_commands.specs.Report.{outcome_word, ran}
 use Rattle.dim_commands.specs.Run.{course_with}
-use Rattle.dim_commands.specs.Taking.{fetches_history}
+use Rattle.dim_inquiry.specs.Taking.{fetches_history}
 
 -- ---- the attempts
 

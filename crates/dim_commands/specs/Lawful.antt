@@ -8,7 +8,7 @@ use Rattle.dim_rag.specs.declared.entry.Entry.{Entry}
 use Rattle.dim_rag.specs.History.{past}
 use Rattle.dim_signature.specs.Sig.{Sig}
 use Rattle.dim_gate.specs.Immune.{IsImmune}
-use Rattle.dim_run.specs.declared.settings.Settings.{Settings}
+use Rattle.dim_schedule.specs.declared.settings.Settings.{Settings}
 use Rattle.dim_run.specs.Complete.{IsComplete}
 use Rattle.dim_run.specs.Crew.{rules_of}
 use Rattle.dim_execution.specs.Executes.{Executes}
@@ -16,7 +16,8 @@ use Rattle.dim_execution.specs.Start.{gate_of}
 use Rattle.dim_trace.specs.Judging.{trace_of}
 use Rattle.dim_trace.specs.Text.{trace_text}
 use Rattle.dim_trace.specs.Value.{TraceValue}
-use Rattle.dim_commands.specs.Output.{Inputs, names_of, program_of, loaded_of, grown_from}
+use Rattle.dim_inquiry.specs.Inputs.{Inputs, names_of, program_of, loaded_of}
+use Rattle.dim_commands.specs.Output.{grown_from}
 
 -- a run's trace
 abbrev pub trace_value : Settings → List Entry → TraceValue

@@ -1,17 +1,8 @@
-pub mod Check
-pub mod Course
 pub mod Depths
 pub mod Generate
 pub mod Immunize
-pub mod Inputs
-pub mod Judging
 pub mod Lawful
 pub mod Live
 pub mod Output
-pub mod Predict
 pub mod Report
 pub mod Run
-pub mod Show
-pub mod Switch
-pub mod Taking
-pub mod Why

@@ -4,21 +4,22 @@ use Rattle.dim_base.specs.Files.{Named, with_file}
 use Rattle.dim_rag.specs.declared.entry.Entry.{Entry}
 use Rattle.dim_history_file.specs.Judging.{history_of}
 use Rattle.dim_history_file.specs.Spelling.{history_text}
-use Rattle.dim_commands.specs.declared.report.Report.{Report}
-use Rattle.dim_commands.specs.declared.stop.Stop.{Stop}
-use Rattle.dim_commands.specs.declared.stop.Stop.TheVariants as stops
+use Rattle.dim_inquiry.specs.declared.report.Report.{Report}
+use Rattle.dim_inquiry.specs.declared.stop.Stop.{Stop}
+use Rattle.dim_inquiry.specs.declared.stop.Stop.TheVariants as stops
 use Rattle.dim_words.specs.Words.{RunWords}
-use Rattle.dim_commands.specs.Output.{Inputs, left_by, grown_by, trace_by, report_by}
+use Rattle.dim_inquiry.specs.Inputs.{Inputs}
+use Rattle.dim_commands.specs.Output.{left_by, grown_by, trace_by, report_by}
 use Rattle.std.specs.Str.{bytes_eq}
 use Rattle.dim_asm.specs.Assembling.{program_of as assembled_of}
 use Rattle.dim_rag.specs.History.{past}
-use Rattle.dim_run.specs.declared.settings.Settings.{Settings}
+use Rattle.dim_schedule.specs.declared.settings.Settings.{Settings}
 use Rattle.dim_run.specs.Gates.{risen}
 use Rattle.dim_run.specs.Living.{by_threads}
-use Rattle.dim_commands.specs.declared.stop.Place.TheVariants as places
-use Rattle.dim_commands.specs.Course.{WhereTold, Runs, Course}
+use Rattle.dim_inquiry.specs.declared.stop.Place.TheVariants as places
+use Rattle.dim_inquiry.specs.Course.{WhereTold, Runs, Course}
 use Rattle.dim_commands.specs.Lawful.{IsLawful}
-use Rattle.dim_commands.specs.Taking.{IsUnder}
+use Rattle.dim_inquiry.specs.Taking.{IsUnder}
 use Rattle.dim_commands.specs.Run.{course_with}
 
 -- `live`, where the run's entries are these

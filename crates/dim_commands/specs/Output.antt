@@ -1,36 +1,19 @@
--- What a run reads, and what it leaves: its texts and its report.
-use Rattle.std.specs.Prelude.{ℕ, List, ◌++◌, length, codes}
-use Rattle.dim_stack.specs.Names.{table_of}
+-- What a run leaves: its texts and its report.
+use Rattle.std.specs.Prelude.{ℕ, List, length}
 use Rattle.dim_signature.specs.Sig.{Sig}
-use Rattle.dim_asm.specs.Bound.{bound, own_names}
-use Rattle.dim_asm.specs.Code.{Code}
 use Rattle.dim_history_file.specs.Spelling.{history_text}
-use Rattle.dim_history_file.specs.Value.{NamedSig, names_used, named, numbered}
+use Rattle.dim_history_file.specs.Value.{NamedSig, named}
 use Rattle.dim_rag.specs.declared.entry.Entry.{Entry}
 use Rattle.dim_rag.specs.History.{past}
 use Rattle.dim_gate.specs.Known.{known_sigs}
-use Rattle.dim_run.specs.declared.settings.Settings.{Settings}
+use Rattle.dim_schedule.specs.declared.settings.Settings.{Settings}
 use Rattle.dim_run.specs.Grown.{grown}
 use Rattle.dim_run.specs.Run.{played, outcome_of, ends_after}
 use Rattle.dim_trace.specs.Text.{trace_text}
-use Rattle.dim_commands.specs.declared.report.Report.{Report}
+use Rattle.dim_inquiry.specs.declared.report.Report.{Report}
+use Rattle.dim_inquiry.specs.Inputs.{Inputs, names_of, program_of, loaded_of}
+use Rattle.dim_commands.specs.declared.storing.Output.{Output}
 use Rattle.dim_commands.specs.Report.{ran}
-
--- what is read for a run: a program, and the signatures of a history
-pub record Inputs : Type 0 where
-  pub program : Code
-  pub sigs : List NamedSig
-
--- the table of the names of both
-abbrev pub names_of : Inputs → List (List ℕ)
-names_of x = table_of (own_names x.program ++ table_of (names_used x.sigs))
-
--- the program and the signatures by their numbers in that table
-abbrev pub program_of : Inputs → Code
-program_of x = bound (names_of x) x.program
-
-abbrev pub loaded_of : Inputs → List Sig
-loaded_of x = numbered (names_of x) x.sigs
 
 -- the entries of the run, oldest first
 unfoldable pub entries_of : Inputs → Settings → List Entry
@@ -78,6 +61,6 @@ played_left s x = record { new_history = new_history x s; trace = trace x s; rep
 abbrev pub left_by : List Entry → Settings → Inputs → Left
 left_by entries s x = record { new_history = history_text (grown_by x s entries); trace = trace_by x s entries; report = report_by x s entries }
 
--- the text of the history that knows no signature
-abbrev pub empty_history : List ℕ
-empty_history = codes "dim history 2\nend 0\n"
+-- what contracts see of it
+abbrev pub left_of : Output → Left
+left_of o = record { new_history = o.texts.new_history; trace = o.texts.trace; report = o.report }

@@ -1,7 +1,6 @@
--- What a run puts at its end, and the statuses.
-use Rattle.std.specs.Prelude.{◌≡◌, ℕ, suc, ◌==◌, true, List, [], ◌∷◌, ◌++◌, length, map, codes}
+-- What a run puts at its end.
+use Rattle.std.specs.Prelude.{ℕ, List, ◌++◌, length, map, codes}
 use Rattle.std.specs.Fmt.{decimal, signed_decimal}
-use Rattle.std.specs.List.{list_any}
 use Rattle.dim_asm.specs.Code.{Code}
 use Rattle.dim_rag.specs.declared.entry.Entry.{Entry}
 use Rattle.dim_events.specs.declared.kind.Totals.{Totals}
@@ -13,20 +12,12 @@ use Rattle.dim_run.specs.declared.finish.Last.{Last}
 use Rattle.dim_run.specs.declared.playing.Outcome.{Outcome}
 use Rattle.dim_run.specs.declared.playing.Outcome.TheVariants as outcomes
 use Rattle.dim_trace.specs.Text.{name_at}
-use Rattle.dim_commands.specs.declared.report.Report.{Report}
-use Rattle.dim_commands.specs.declared.report.Ending.{Ending}
-use Rattle.dim_commands.specs.declared.report.Ending.TheVariants as endings
+use Rattle.dim_inquiry.specs.Report.{by_number}
+use Rattle.dim_inquiry.specs.declared.report.Report.{Report}
+use Rattle.dim_inquiry.specs.declared.report.Ending.{Ending}
+use Rattle.dim_inquiry.specs.declared.report.Ending.TheVariants as endings
 
--- the status that goes with a report
-abbrev pub status_of : Ending → ℕ
-status_of endings.Done = 0
-status_of endings.Deadlocked = 3
-status_of endings.Stalled = 4
-
--- the statuses that there are
-abbrev pub IsStatus : ℕ → Type 0
-IsStatus status = list_any (λ n. n == status) (0 ∷ 2 ∷ 3 ∷ 4 ∷ 5 ∷ 6 ∷ 7 ∷ 8 ∷ 9 ∷ 10 ∷ 11 ∷ 12 ∷ 13 ∷ 14 ∷ 15 ∷ 16 ∷ []) ≡ true
-
+-- how a run that has this outcome ends its command
 abbrev pub ending_of : Outcome → Ending
 ending_of outcomes.Finished = endings.Done
 ending_of outcomes.Deadlocked = endings.Deadlocked
@@ -67,11 +58,6 @@ finish_words p (finish.Waits l) = codes "waits " ++ name_at p.locks l.0
 abbrev pub thread_line : Code → ℕ → Last → List ℕ
 thread_line p t end = codes "thread "
     ++ (decimal t ++ (codes " " ++ (finish_words p end.finish ++ (codes " said " ++ (decimal end.said ++ (codes " last " ++ (signed_decimal end.last ++ codes "\n")))))))
-
--- the texts of some values from the number i on, each by its number
-unfoldable pub by_number : {X : Type 0} → (ℕ → X → List ℕ) → ℕ → List X → List ℕ
-by_number text i [] = []
-by_number text i (x ∷ xs) = text i x ++ by_number text (suc i) xs
 
 abbrev pub thread_lines : Code → List Last → List ℕ
 thread_lines p ends = by_number (thread_line p) 0 ends

@@ -2,14 +2,15 @@
 use Rattle.std.specs.Prelude.{◌≡◌, ℕ, List, Option, Some, Ok, false}
 use Rattle.dim_base.specs.Files.{Named, with_file}
 use Rattle.dim_history_file.specs.Judging.{history_of}
-use Rattle.dim_commands.specs.declared.report.Report.{Report}
-use Rattle.dim_commands.specs.declared.stop.Place.TheVariants.{Program, NewHistory, Trace}
+use Rattle.dim_inquiry.specs.declared.report.Report.{Report}
+use Rattle.dim_inquiry.specs.declared.stop.Place.TheVariants.{Program, NewHistory, Trace}
 use Rattle.dim_words.specs.Words.{RunWords}
-use Rattle.dim_commands.specs.Output.{Inputs, Left, played_left, entries_of, new_history, trace, run_report}
+use Rattle.dim_inquiry.specs.Inputs.{Inputs}
+use Rattle.dim_commands.specs.Output.{Left, played_left, entries_of, new_history, trace, run_report}
 use Rattle.std.specs.Str.{bytes_eq}
 use Rattle.dim_asm.specs.Assembling.{program_of as assembled_of}
-use Rattle.dim_commands.specs.Course.{file_at, Course, ◌>>=◌, gives, stores}
-use Rattle.dim_commands.specs.Taking.{fetches_history, fetches_inputs}
+use Rattle.dim_inquiry.specs.Course.{file_at, Course, ◌>>=◌, gives, stores}
+use Rattle.dim_inquiry.specs.Taking.{fetches_history, fetches_inputs}
 use Rattle.dim_commands.specs.Lawful.{IsLawful}
 
 -- what a run leaves is stored under two names, and its report ends the command

@@ -8,7 +8,7 @@ ghost use Rattle.dim_history_file.specs.Grammar.{AreNear};
 ghost use Rattle.dim_history_file.specs.Judging.{history_of};
 ghost use Rattle.dim_history_file.specs.Seen.{value_of};
 ghost use Rattle.dim_history_file.specs.Spelling.{history_text};
-ghost use Rattle.dim_run.specs.Settings.{AreSettings};
+ghost use Rattle.dim_schedule.specs.Settings.{AreSettings};
 ghost use Rattle.dim_signature.specs.Sig.{Sig};
 ghost use Rattle.dim_trace.specs.Text.{trace_text};
 ghost use Rattle.dim_tune.specs.Runs.{IsKeptRun};
@@ -16,11 +16,12 @@ ghost use Rattle.dim_commands.specs.Immunize.{attempt_line, attempt_lines, behin
 ghost use Rattle.dim_commands.specs.Lawful.{ReadsBack};
 ghost use Rattle.dim_commands.specs.Report.{ran};
 
-use crate::report::{Report, ran, word_of};
+use crate::ran::{ran, word_of};
 use crate::storing::RunTexts;
 use dim_asm::Program;
 use dim_base::{Bytes, OutOfMemory};
 use dim_history_file::write;
+use dim_inquiry::Report;
 use dim_run::Settings;
 use dim_trace::{entries_law, length_law, reading_law, write_tables};
 use dim_tune::{Attempt, KeptImmunized};

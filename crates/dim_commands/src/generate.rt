@@ -1,23 +1,23 @@
 //! `generate`, up to its report.
 ghost use Rattle.std.specs.Prelude.{◌≡◌, ◌≤◌, length, IfOk};
-ghost use Rattle.dim_run.specs.Settings.{AreSettings};
-ghost use Rattle.dim_commands.specs.Course.{WhereTold, StopCause, Runs, HasWords};
+ghost use Rattle.dim_schedule.specs.Settings.{AreSettings};
+ghost use Rattle.dim_inquiry.specs.Course.{WhereTold, StopCause, Runs, HasWords};
 ghost use Rattle.dim_commands.specs.Generate.{generate_course, generated_inputs, generated_report};
 ghost use Rattle.dim_generate.specs.Generated.{generated_text};
-ghost use Rattle.dim_commands.specs.Inputs.{inputs_of, IsRead};
+ghost use Rattle.dim_inquiry.specs.Inputs.{inputs_of, IsRead};
 ghost use Rattle.dim_commands.specs.Output.{run_report};
 ghost use Rattle.dim_words.specs.Words.{default_settings};
 
-use crate::binding::bound;
-use crate::calls::store_at;
-use crate::inputs::Inputs;
 use crate::playing::played;
-use crate::report::{Ending, Report, ran};
-use crate::stop::{Place, Stop};
+use crate::ran::ran;
 use dim_asm::{AsmError, Program, assemble};
 use dim_base::{Bytes, Files, OutOfMemory, Word};
 use dim_generate::generated;
 use dim_history_file::History;
+use dim_inquiry::binding::bound;
+use dim_inquiry::calls::store_at;
+use dim_inquiry::inputs::Inputs;
+use dim_inquiry::{Ending, Place, Report, Stop};
 use dim_run::Settings;
 use dim_words::default_settings;
 use std::alloc::Global;

@@ -1,20 +1,20 @@
 //! `immunize`, up to its report.
 ghost use Rattle.std.specs.Prelude.{◌≡◌, ◌≤◌, length, false, IfOk, OnOk};
 ghost use Rattle.std.specs.Str.{bytes_eq};
-ghost use Rattle.dim_run.specs.Settings.{AreSettings};
+ghost use Rattle.dim_schedule.specs.Settings.{AreSettings};
 ghost use Rattle.dim_words.specs.Commands.{immunize_words};
-ghost use Rattle.dim_commands.specs.Course.{WhereTold, StopCause, Runs, HasWords};
+ghost use Rattle.dim_inquiry.specs.Course.{WhereTold, StopCause, Runs, HasWords};
 ghost use Rattle.dim_commands.specs.Immunize.{last_of, attempts_left, immunize_course, AreLawful, Immunized};
-ghost use Rattle.dim_commands.specs.Inputs.{inputs_of, left_of, IsRead};
+ghost use Rattle.dim_inquiry.specs.Inputs.{inputs_of, IsRead};
+ghost use Rattle.dim_commands.specs.Output.{left_of};
 
 use crate::attempts::{attempted, texts_after};
-use crate::binding::bound;
-use crate::fetching::fetch_inputs;
-use crate::inputs::Inputs;
-use crate::report::Report;
-use crate::stop::Stop;
 use crate::storing::{Output, store_left};
 use dim_base::{Files, OutOfMemory};
+use dim_inquiry::binding::bound;
+use dim_inquiry::fetching::fetch_inputs;
+use dim_inquiry::inputs::Inputs;
+use dim_inquiry::{Report, Stop};
 use dim_run::Settings;
 use dim_tune::immunize_kept;
 use dim_tune::laws::grows_law;

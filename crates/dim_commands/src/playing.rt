@@ -17,16 +17,16 @@ ghost use Rattle.dim_run.specs.Gates.{risen};
 ghost use Rattle.dim_run.specs.Grown.{grown};
 ghost use Rattle.dim_run.specs.Living.{by_threads};
 ghost use Rattle.dim_run.specs.Run.{outcome_of, ends_after, played};
-ghost use Rattle.dim_run.specs.Settings.{AreSettings};
+ghost use Rattle.dim_schedule.specs.Settings.{AreSettings};
 ghost use Rattle.dim_run.specs.Spelled.{AreSpelled};
 ghost use Rattle.dim_trace.specs.Text.{trace_text};
 ghost use Rattle.dim_commands.specs.Lawful.{ReadsBack};
 
-use crate::inputs::Inputs;
 use crate::storing::RunTexts;
 use dim_base::OutOfMemory;
 use dim_gate::laws::immune_law;
 use dim_history_file::{History, write};
+use dim_inquiry::inputs::Inputs;
 use dim_run::laws::{complete_law, spelled_law};
 use dim_run::{House, KeptRun, Settings, live_kept, play_kept};
 use dim_signature::Catalogue;

@@ -1,22 +1,22 @@
 //! `run`, up to its report.
 ghost use Rattle.std.specs.Prelude.{◌≡◌, ◌≤◌, length, false, IfOk, OnOk};
 ghost use Rattle.std.specs.Str.{bytes_eq};
-ghost use Rattle.dim_run.specs.Settings.{AreSettings};
+ghost use Rattle.dim_schedule.specs.Settings.{AreSettings};
 ghost use Rattle.dim_words.specs.Commands.{run_words};
-ghost use Rattle.dim_commands.specs.Inputs.{inputs_of, IsRead};
+ghost use Rattle.dim_inquiry.specs.Inputs.{inputs_of, IsRead};
 ghost use Rattle.dim_commands.specs.Output.{entries_of, new_history, trace, run_report};
-ghost use Rattle.dim_commands.specs.Course.{WhereTold, StopCause, Runs, HasWords};
+ghost use Rattle.dim_inquiry.specs.Course.{WhereTold, StopCause, Runs, HasWords};
 ghost use Rattle.dim_commands.specs.Run.{run_course, Stored};
 ghost use Rattle.dim_commands.specs.Lawful.{IsLawful};
 
-use crate::binding::bound;
-use crate::fetching::fetch_inputs;
-use crate::inputs::Inputs;
 use crate::playing::{played, texts_of};
-use crate::report::{Report, ran};
-use crate::stop::Stop;
+use crate::ran::ran;
 use crate::storing::{Output, store_left};
 use dim_base::{Files, OutOfMemory};
+use dim_inquiry::binding::bound;
+use dim_inquiry::fetching::fetch_inputs;
+use dim_inquiry::inputs::Inputs;
+use dim_inquiry::{Report, Stop};
 use dim_run::Settings;
 use dim_words::RunCommand;
 use std::alloc::Global;

@@ -1,12 +1,11 @@
 //! What a run leaves, and how it is stored.
-ghost use Rattle.dim_commands.specs.Course.{WhereTold, StopCause, Runs, HasWords};
-ghost use Rattle.dim_commands.specs.Inputs.{left_of};
+ghost use Rattle.dim_inquiry.specs.Course.{WhereTold, StopCause, Runs, HasWords};
+ghost use Rattle.dim_commands.specs.Output.{left_of};
 ghost use Rattle.dim_commands.specs.Run.{stores_left};
 
-use crate::calls::store_at;
-use crate::report::Report;
-use crate::stop::{Place, Stop};
 use dim_base::{Bytes, Files, Word};
+use dim_inquiry::calls::store_at;
+use dim_inquiry::{Place, Report, Stop};
 use std::alloc::Global;
 
 /// The texts that a run leaves.

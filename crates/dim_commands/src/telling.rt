@@ -3,8 +3,8 @@ ghost use Rattle.std.specs.Prelude.{◌≡◌, ◌++◌, length, IfOk, OnOk};
 ghost use Rattle.std.specs.String.{string_bytes};
 ghost use Rattle.dim_commands.specs.Depths.{depth_line, depths_text, depths_told};
 
-use crate::report::{Ending, Report};
 use dim_base::{Bytes, OutOfMemory};
+use dim_inquiry::{Ending, Report};
 use dim_signature::Catalogue;
 use std::alloc::{AllocError, Global};
 use std::fmt::Write;

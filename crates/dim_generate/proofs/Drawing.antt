@@ -15,7 +15,7 @@ use Rattle.dim_asm.specs.Source.{Statement, LockLine, FuncLine, OpLine, EndLine,
 use Rattle.dim_asm.specs.Spelling.{spelled, function_lines, text_of, source_text}
 use Rattle.dim_asm.specs.Printing.{thread_line}
 use Rattle.dim_asm.proofs.Exports.{text-append}
-use Rattle.dim_run.specs.Schedule.{word, after, generator}
+use Rattle.dim_schedule.specs.Drawn.{word, after, generator}
 use Rattle.dim_generate.specs.Generated.{from, numbered, lock_name}
 use Rattle.dim_generate.specs.Drafted.{called, caller_draft, started, generated_source}
 

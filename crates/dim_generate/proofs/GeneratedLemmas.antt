@@ -17,7 +17,7 @@ use Rattle.dim_asm.specs.Linking.{Tables}
 use Rattle.dim_asm.specs.Printing.{names_in, name_at, named, named_function, named_start, program_text, HasWidth, IsPrintable}
 use Rattle.dim_asm.specs.Source.{Source, DraftFunction, DraftStart, Ready, Refers}
 use Rattle.dim_asm.proofs.Exports.{text_again}
-use Rattle.dim_run.specs.Schedule.{generator, after, word, word_at}
+use Rattle.dim_schedule.specs.Drawn.{generator, after, word, word_at}
 use Rattle.dim_generate.specs.Generated.{from, numbered, lock_name, first_lock, second_lock, taker, caller, start, generated_program}
 use Rattle.dim_generate.specs.Drafted.{taker_of, caller_of, started, generated_source}
 use Rattle.dim_generate.proofs.Drawing.{after_after}

@@ -5,7 +5,7 @@ use Rattle.rand_pcg.specs.Lcg.{Lcg}
 use Rattle.dim_asm.specs.declared.op.Op.TheVariants as op
 use Rattle.dim_asm.specs.declared.mnemonic.Naming.TheVariants as naming
 use Rattle.dim_asm.specs.Source.{Source, Draft, Ready, Refers, DraftFunction, DraftStart}
-use Rattle.dim_run.specs.Schedule.{word, after}
+use Rattle.dim_schedule.specs.Drawn.{word, after}
 use Rattle.dim_generate.specs.Generated.{from, numbered, lock_name, first_lock, second_lock}
 
 -- a call of the function f of this number

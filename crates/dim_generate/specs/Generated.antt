@@ -6,7 +6,7 @@ use Rattle.dim_asm.specs.declared.op.Op.TheVariants as op
 use Rattle.dim_asm.specs.declared.start.Start.{Start}
 use Rattle.dim_asm.specs.Code.{Code, Function}
 use Rattle.dim_asm.specs.Printing.{program_text}
-use Rattle.dim_run.specs.Schedule.{word_at}
+use Rattle.dim_schedule.specs.Drawn.{word_at}
 
 -- the numbers from i on, so many of them
 unfoldable pub from : ℕ → ℕ → List ℕ

@@ -15,7 +15,7 @@ use Rattle.dim_gate.specs.Learns.{learns}
 use Rattle.dim_run.specs.Grown.{grown, yields_of, GrownLaw}
 use Rattle.dim_run.specs.Run.{played}
 use Rattle.dim_asm.specs.Code.{Code}
-use Rattle.dim_run.specs.declared.settings.Settings.{Settings}
+use Rattle.dim_schedule.specs.declared.settings.Settings.{Settings}
 use Rattle.dim_tune.specs.Attempts.{sigs_after}
 use Rattle.dim_tune.specs.Laws.{all_yields_of, AllGrownLaw, GrowsLaw, PrefixLaw}
 use Rattle.dim_tune.proofs.MadeSteps.{sigs_first, sigs_next}

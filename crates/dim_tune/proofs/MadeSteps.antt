@@ -7,7 +7,7 @@ use Rattle.std.proofs.lemmas.Option.{same_Some}
 use Rattle.dim_asm.specs.Code.{Code}
 use Rattle.dim_signature.specs.Sig.{Sig}
 use Rattle.dim_history_file.specs.Grammar.{AreNear}
-use Rattle.dim_run.specs.declared.settings.Settings.{Settings}
+use Rattle.dim_schedule.specs.declared.settings.Settings.{Settings}
 use Rattle.dim_run.specs.Grown.{grown}
 use Rattle.dim_run.specs.Run.{played}
 use Rattle.dim_tune.specs.declared.attempt.Attempt.{Attempt}

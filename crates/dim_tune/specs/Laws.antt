@@ -6,7 +6,7 @@ use Rattle.dim_rag.specs.declared.entry.Entry.{Entry}
 use Rattle.dim_signature.specs.Sig.{Sig, counted}
 use Rattle.dim_gate.specs.Gate.{Constants}
 use Rattle.dim_gate.specs.Legal.{Legal}
-use Rattle.dim_run.specs.declared.settings.Settings.{Settings}
+use Rattle.dim_schedule.specs.declared.settings.Settings.{Settings}
 use Rattle.dim_run.specs.Grown.{yields_of}
 use Rattle.dim_run.specs.Run.{played}
 use Rattle.dim_tune.specs.Attempts.{sigs_after}

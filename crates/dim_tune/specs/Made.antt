@@ -3,7 +3,7 @@ use Rattle.std.specs.Prelude.{◌≡◌, ℕ, suc, ◌<◌, List, [], ◌∷◌,
 use Rattle.dim_asm.specs.Code.{Code}
 use Rattle.dim_signature.specs.Sig.{Sig}
 use Rattle.dim_history_file.specs.Grammar.{AreNear}
-use Rattle.dim_run.specs.declared.settings.Settings.{Settings}
+use Rattle.dim_schedule.specs.declared.settings.Settings.{Settings}
 use Rattle.dim_tune.specs.declared.attempt.KeptImmunized.{KeptImmunized}
 use Rattle.dim_tune.specs.declared.making.Made.{Made}
 use Rattle.dim_tune.specs.declared.making.Rest.{Rest}

@@ -15,7 +15,7 @@ use Rattle.dim_run.specs.declared.finish.Last.{Last}
 use Rattle.dim_run.specs.declared.playing.KeptRun.{KeptRun}
 use Rattle.dim_run.specs.declared.playing.Outcome.{Outcome}
 use Rattle.dim_run.specs.declared.playing.Run.{Run}
-use Rattle.dim_run.specs.declared.settings.Settings.{Settings}
+use Rattle.dim_schedule.specs.declared.settings.Settings.{Settings}
 use Rattle.dim_run.specs.Complete.{IsComplete}
 use Rattle.dim_run.specs.Crew.{rules_of}
 use Rattle.dim_run.specs.Grown.{grown}

@@ -4,7 +4,7 @@ ghost use Rattle.dim_asm.specs.Bound.{IsBound};
 ghost use Rattle.dim_rag.specs.History.{past};
 ghost use Rattle.dim_gate.specs.Learns.{learns};
 ghost use Rattle.dim_history_file.specs.Grammar.{AreNear};
-ghost use Rattle.dim_run.specs.Settings.{AreSettings};
+ghost use Rattle.dim_schedule.specs.Settings.{AreSettings};
 ghost use Rattle.dim_run.specs.Spelled.{AreSpelled};
 ghost use Rattle.dim_tune.specs.Attempts.{AreLoadable, HasLearnt};
 ghost use Rattle.dim_tune.specs.Made.{AreDone, IsAgain};

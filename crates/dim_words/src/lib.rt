@@ -16,6 +16,3 @@ pub use command::{
 };
 pub use kind::Kind;
 pub use parting::{Line, Parting, read_line};
-
-#[cfg(test)]
-mod tests;

@@ -4,8 +4,8 @@ use Rattle.dim_base.specs.Files.{Named, with_file}
 use Rattle.dim_rag.specs.History.{past}
 use Rattle.dim_run.specs.Run.{outcome_of}
 use Rattle.dim_words.specs.Words.{CheckWords}
-use Rattle.dim_commands.specs.Course.{after_calls}
-use Rattle.dim_commands.specs.Judging.{Given, judged_course}
+use Rattle.dim_inquiry.specs.Course.{after_calls}
+use Rattle.dim_inquiry.specs.Judging.{Given, judged_course}
 use Rattle.dim_picture.specs.Marks.{marks}
 use Rattle.dim_picture.specs.Shapes.{shapes_of}
 use Rattle.dim_picture.specs.Page.{picture_text}

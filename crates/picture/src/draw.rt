@@ -3,15 +3,15 @@ ghost use Rattle.std.specs.Prelude.{◌≡◌, ◌≤◌, length, Some, IfOk, On
 ghost use Rattle.dim_base.specs.Files.{with_file};
 ghost use Rattle.dim_trace.specs.Grammar.{IsTrace};
 ghost use Rattle.dim_words.specs.Commands.{check_words};
-ghost use Rattle.dim_commands.specs.Course.{WhereTold};
-ghost use Rattle.dim_commands.specs.Judging.{given_of, IsExecuted};
+ghost use Rattle.dim_inquiry.specs.Course.{WhereTold};
+ghost use Rattle.dim_inquiry.specs.Judging.{given_of, IsExecuted};
 ghost use Rattle.picture.specs.Drawn.{IsDrawn, behind_of, first_of, is_long, picture_of, range_of, within};
 
 use crate::stop::Stop;
 use crate::words::Command;
 use dim_base::{Bytes, Files, OutOfMemory, Store, Word};
-use dim_commands::inputs::Inputs;
-use dim_commands::judging::{Given, judged};
+use dim_inquiry::inputs::Inputs;
+use dim_inquiry::judging::{Given, judged};
 use dim_picture::{drawn, picture_text};
 use std::alloc::Global;
 

@@ -1,6 +1,6 @@
 //! Why there is no picture.
 use dim_base::OutOfMemory;
-use dim_commands::Stop as Judging;
+use dim_inquiry::Stop as Judging;
 
 /// What stops the program before it has stored a picture.
 #[derive(Clone, Copy, Debug, PartialEq, Eq)]

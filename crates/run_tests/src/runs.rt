@@ -1,6 +1,6 @@
 ghost use Rattle.std.specs.Prelude.{◌≡◌, ◌≤◌, ◌+◌, []};
 ghost use Rattle.dim_gate.specs.Gate.{constants};
-ghost use Rattle.dim_run.specs.Settings.{AreSettings};
+ghost use Rattle.dim_schedule.specs.Settings.{AreSettings};
 ghost use Rattle.dim_run.specs.Settle.{IsTwin};
 
 use dim_asm::assemble;

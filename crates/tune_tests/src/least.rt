@@ -1,5 +1,5 @@
 ghost use Rattle.std.specs.Prelude.{◌≡◌, ◌≤◌, length};
-ghost use Rattle.dim_run.specs.Settings.{AreSettings};
+ghost use Rattle.dim_schedule.specs.Settings.{AreSettings};
 
 use crate::bound::{Both, read_both};
 use crate::many::elsewhere;

@@ -2,9 +2,9 @@ use Rattle.std.proofs.Common.{◌+◌, ◌++◌, get_or, sym, ap, ◌∙◌}
 use Rattle.std.proofs.lemmas.Option.{slice_get-get_or}
 use Rattle.dim_run.specs.declared.playing.Outcome.TheVariants.{Finished}
 use Rattle.dim_tune.specs.declared.attempt.Attempt.{Attempt}
-use Rattle.dim_commands.specs.Report.{by_number}
+use Rattle.dim_inquiry.specs.Report.{by_number}
 use Rattle.dim_commands.specs.Immunize.{attempt_line}
-use Rattle.dim_commands.proofs.ReportLemmas.{by_number_from}
+use Rattle.dim_inquiry.proofs.Exports.{by_number_from}
 use Rattle.dim_commands.proofs.attempts.attempt_lines.Goals as goal
 
 pub loop-i-init : goal.loop-i-init

@@ -1,15 +1,15 @@
 use Rattle.std.proofs.Common.{◌≡◌, Result, Ok, sym, ◌∙◌, subst}
 use Rattle.std.proofs.lemmas.Result.{err_from_is_err_and}
-use Rattle.dim_commands.specs.declared.report.Report.{Report}
+use Rattle.dim_inquiry.specs.declared.report.Report.{Report}
 use Rattle.dim_words.specs.Commands.{check_words}
-use Rattle.dim_commands.specs.Course.{Stops, Runs}
-use Rattle.dim_commands.specs.Judging.{Given, judged_course, given_of}
+use Rattle.dim_inquiry.specs.Course.{Stops, Runs}
+use Rattle.dim_inquiry.specs.Judging.{Given, judged_course, given_of}
 use Rattle.dim_execution.specs.Start.{gate_of}
 use Rattle.dim_rag.specs.History.{past}
 use Rattle.dim_tune.specs.Depths.{AreLeastDepths}
-use Rattle.dim_commands.specs.declared.stop.Refusal.{Refusal}
+use Rattle.dim_inquiry.specs.declared.stop.Refusal.{Refusal}
 use Rattle.dim_commands.specs.Depths.{depths_course, least_of, told}
-use Rattle.dim_commands.proofs.ReportedLemmas.{at_judging, at_building, at_report}
+use Rattle.dim_inquiry.proofs.Exports.{at_judging, at_building, at_report}
 use Rattle.dim_commands.proofs.depths.depths.Goals as goal
 
 pub returns-in_err-given-clause-runs : goal.returns-in_err-given-clause-runs

@@ -4,8 +4,9 @@ use Rattle.std.proofs.lemmas.Option.{slice_get-get_or}
 use Rattle.std.specs.Prelude.{pos}
 use Rattle.dim_run.specs.declared.finish.Finish.TheVariants.{Done}
 use Rattle.dim_run.specs.declared.finish.Last.{Last}
-use Rattle.dim_commands.specs.Report.{by_number, thread_line}
-use Rattle.dim_commands.proofs.ReportLemmas.{by_number_more}
+use Rattle.dim_inquiry.specs.Report.{by_number}
+use Rattle.dim_commands.specs.Report.{thread_line}
+use Rattle.dim_inquiry.proofs.Exports.{by_number_more}
 use Rattle.dim_commands.proofs.ends.put_threads.Goals as goal
 
 pub loop-t-init : goal.loop-t-init

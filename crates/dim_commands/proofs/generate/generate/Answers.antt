@@ -1,9 +1,9 @@
 use Rattle.std.proofs.Common.{◌≡◌, Some, Ok, ap, sym, ◌∙◌, subst}
 use Rattle.std.proofs.lemmas.Result.{err_from_is_err_and}
 use Rattle.dim_base.specs.Files.{with_file}
-use Rattle.dim_commands.specs.declared.report.Report.{Report}
-use Rattle.dim_commands.specs.declared.stop.Place.TheVariants.{Program}
-use Rattle.dim_commands.specs.Course.{Stops, Runs, stores}
+use Rattle.dim_inquiry.specs.declared.report.Report.{Report}
+use Rattle.dim_inquiry.specs.declared.stop.Place.TheVariants.{Program}
+use Rattle.dim_inquiry.specs.Course.{Stops, Runs, stores}
 use Rattle.dim_commands.specs.Generate.{generate_course}
 use Rattle.dim_generate.specs.Generated.{generated_text}
 use Rattle.dim_commands.proofs.GenerateLemmas.{text_is, at_making, at_storing, at_end}

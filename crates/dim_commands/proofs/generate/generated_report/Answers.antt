@@ -1,6 +1,6 @@
 use Rattle.std.proofs.Common.{◌∙◌, ap}
 use Rattle.dim_commands.specs.Output.{run_report}
-use Rattle.dim_commands.specs.Inputs.{inputs_of}
+use Rattle.dim_inquiry.specs.Inputs.{inputs_of}
 use Rattle.dim_commands.proofs.GenerateLemmas.{done_is}
 use Rattle.dim_commands.proofs.generate.generated_report.Goals as goal
 

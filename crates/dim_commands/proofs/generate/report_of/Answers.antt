@@ -1,6 +1,6 @@
 use Rattle.std.proofs.Common.{subst, IfOk, ◌≡◌}
-use Rattle.dim_commands.specs.declared.report.Report.{Report}
-use Rattle.dim_commands.specs.Inputs.{inputs_of}
+use Rattle.dim_inquiry.specs.declared.report.Report.{Report}
+use Rattle.dim_inquiry.specs.Inputs.{inputs_of}
 use Rattle.dim_commands.proofs.BuildLemmas.{IsPlayed, is_played, report_is}
 use Rattle.dim_commands.proofs.generate.report_of.Goals as goal
 

@@ -1,4 +1,5 @@
-use Rattle.dim_commands.specs.Inputs.{inputs_of, left_of}
+use Rattle.dim_inquiry.specs.Inputs.{inputs_of}
+use Rattle.dim_commands.specs.Output.{left_of}
 use Rattle.dim_commands.proofs.AttemptLemmas.{AreTried, tried_left, tried_lawful, last_totals}
 use Rattle.dim_commands.proofs.immunize.build.Goals as goal
 

@@ -1,13 +1,13 @@
 use Rattle.std.proofs.Common.{◌≡◌, Some, ◌∙◌, subst}
 use Rattle.std.proofs.lemmas.Result.{err_from_is_err_and}
 use Rattle.dim_words.specs.Commands.{immunize_words}
-use Rattle.dim_commands.specs.declared.report.Report.{Report}
-use Rattle.dim_commands.specs.Course.{Stops, Runs, WhereTold}
+use Rattle.dim_inquiry.specs.declared.report.Report.{Report}
+use Rattle.dim_inquiry.specs.Course.{Stops, Runs, WhereTold}
 use Rattle.dim_commands.specs.Immunize.{attempts_left}
-use Rattle.dim_commands.specs.Inputs.{inputs_of}
+use Rattle.dim_inquiry.specs.Inputs.{inputs_of}
 use Rattle.dim_commands.specs.Run.{stores_left}
-use Rattle.dim_commands.specs.Taking.{fetches_inputs}
-use Rattle.dim_commands.proofs.CourseLemmas.{later}
+use Rattle.dim_inquiry.specs.Taking.{fetches_inputs}
+use Rattle.dim_inquiry.proofs.Exports.{later}
 use Rattle.dim_commands.proofs.ImmunizeLemmas.{immunized_so}
 use Rattle.dim_commands.proofs.RunLemmas.{IsGot, at_inputs, at_stores, at_building}
 use Rattle.dim_commands.proofs.immunize.immunize.Goals as goal

@@ -1,4 +1,4 @@
-use Rattle.dim_commands.specs.Inputs.{inputs_of}
+use Rattle.dim_inquiry.specs.Inputs.{inputs_of}
 use Rattle.dim_commands.proofs.LiveLemmas.{IsRun, lived_by}
 use Rattle.dim_commands.proofs.living.build_live.Goals as goal
 

@@ -2,16 +2,17 @@ use Rattle.std.proofs.Common.{◌≡◌, [], Some, ◌∙◌, subst, inl}
 use Rattle.std.proofs.lemmas.Result.{err_from_is_err_and}
 use Rattle.dim_history_file.specs.Spelling.{history_text}
 use Rattle.dim_words.specs.Commands.{run_words}
-use Rattle.dim_commands.specs.declared.report.Report.{Report}
-use Rattle.dim_commands.specs.Course.{Stops, Runs, WhereTold}
-use Rattle.dim_commands.specs.Inputs.{inputs_of, left_of}
+use Rattle.dim_inquiry.specs.declared.report.Report.{Report}
+use Rattle.dim_inquiry.specs.Course.{Stops, Runs, WhereTold}
+use Rattle.dim_inquiry.specs.Inputs.{inputs_of}
+use Rattle.dim_commands.specs.Output.{left_of}
 use Rattle.dim_commands.specs.Output.{grown_by, trace_by, report_by, left_by}
 use Rattle.dim_commands.specs.Run.{stores_left}
-use Rattle.dim_commands.specs.Taking.{fetches_inputs}
+use Rattle.dim_inquiry.specs.Taking.{fetches_inputs}
 use Rattle.dim_commands.proofs.LiveLemmas.{inputs_early, lives_so}
 use Rattle.dim_commands.proofs.RunLemmas.{at_inputs, at_building}
 use Rattle.dim_commands.proofs.StoreLemmas.{left_is}
-use Rattle.dim_commands.proofs.CourseLemmas.{later}
+use Rattle.dim_inquiry.proofs.Exports.{later}
 use Rattle.dim_commands.proofs.living.run_live.Goals as goal
 
 pub returns-in_err-inputs-clause-lives : goal.returns-in_err-inputs-clause-lives

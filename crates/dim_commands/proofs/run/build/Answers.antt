@@ -1,5 +1,5 @@
 use Rattle.std.proofs.Common.{◌∙◌}
-use Rattle.dim_commands.specs.Inputs.{inputs_of}
+use Rattle.dim_inquiry.specs.Inputs.{inputs_of}
 use Rattle.dim_commands.proofs.BuildLemmas.{IsPlayed, is_played, trace_is, history_is, report_is, lawful_is}
 use Rattle.dim_commands.proofs.run.build.Goals as goal
 

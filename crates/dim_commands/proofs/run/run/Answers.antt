@@ -1,15 +1,16 @@
 use Rattle.std.proofs.Common.{◌≡◌, Some, ◌∙◌, subst}
 use Rattle.std.proofs.lemmas.Result.{err_from_is_err_and}
 use Rattle.dim_words.specs.Commands.{run_words}
-use Rattle.dim_commands.specs.declared.report.Report.{Report}
-use Rattle.dim_commands.specs.Course.{Stops, Runs, WhereTold}
-use Rattle.dim_commands.specs.Inputs.{inputs_of, left_of}
+use Rattle.dim_inquiry.specs.declared.report.Report.{Report}
+use Rattle.dim_inquiry.specs.Course.{Stops, Runs, WhereTold}
+use Rattle.dim_inquiry.specs.Inputs.{inputs_of}
+use Rattle.dim_commands.specs.Output.{left_of}
 use Rattle.dim_commands.specs.Output.{new_history, trace, run_report, played_left}
 use Rattle.dim_commands.specs.Run.{stores_left}
-use Rattle.dim_commands.specs.Taking.{fetches_inputs}
+use Rattle.dim_inquiry.specs.Taking.{fetches_inputs}
 use Rattle.dim_commands.proofs.RunLemmas.{IsGot, at_inputs, at_stores, at_building, stored_so}
 use Rattle.dim_commands.proofs.StoreLemmas.{left_is}
-use Rattle.dim_commands.proofs.CourseLemmas.{later}
+use Rattle.dim_inquiry.proofs.Exports.{later}
 use Rattle.dim_commands.proofs.run.run.Goals as goal
 
 pub returns-in_err-inputs-clause-runs : goal.returns-in_err-inputs-clause-runs

@@ -1,9 +1,9 @@
 use Rattle.std.proofs.Common.{◌≡◌, Some, ap, ◌∙◌, subst}
 use Rattle.std.proofs.lemmas.Result.{err_from_is_err_and}
 use Rattle.dim_base.specs.Files.{with_file}
-use Rattle.dim_commands.specs.declared.stop.Place.TheVariants.{NewHistory, Trace}
-use Rattle.dim_commands.specs.Course.{Stops, stores}
-use Rattle.dim_commands.specs.Inputs.{left_of}
+use Rattle.dim_inquiry.specs.declared.stop.Place.TheVariants.{NewHistory, Trace}
+use Rattle.dim_inquiry.specs.Course.{Stops, stores}
+use Rattle.dim_commands.specs.Output.{left_of}
 use Rattle.dim_commands.proofs.StoreLemmas.{at_history, at_trace, at_report}
 use Rattle.dim_commands.proofs.storing.store_left.Goals as goal
 

@@ -2,7 +2,7 @@ use Rattle.std.proofs.Common.{◌≡◌, ◌++◌, ◌<◌, length, get_or, take
 use Rattle.std.specs.Fmt.{decimal}
 use Rattle.std.proofs.lemmas.List.{take_all}
 use Rattle.std.proofs.lemmas.Option.{slice_get-get_or}
-use Rattle.dim_commands.specs.Report.{by_number}
+use Rattle.dim_inquiry.specs.Report.{by_number}
 use Rattle.dim_commands.specs.Depths.{depth_line}
 use Rattle.dim_commands.proofs.TellingLemmas.{lines_more, pairs, pairs_count}
 use Rattle.dim_commands.proofs.telling.depths_text.Goals as goal

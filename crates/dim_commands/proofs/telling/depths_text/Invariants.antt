@@ -1,6 +1,6 @@
 use Rattle.std.proofs.Common.{◌≡◌, take}
 use Rattle.std.specs.String.{string_bytes}
-use Rattle.dim_commands.specs.Report.{by_number}
+use Rattle.dim_inquiry.specs.Report.{by_number}
 use Rattle.dim_commands.specs.Depths.{depth_line}
 use Rattle.dim_commands.proofs.TellingLemmas.{pairs}
 use Rattle.dim_commands.proofs.telling.depths_text.Given as goal

@@ -1,6 +1,6 @@
 use Rattle.std.proofs.Common.{◌≡◌, ap, ◌∙◌, rules}
 use Rattle.dim_asm.specs.Spelling.{source_text}
-use Rattle.dim_run.specs.Schedule.{generator}
+use Rattle.dim_schedule.specs.Drawn.{generator}
 use Rattle.dim_generate.specs.Drafted.{generated_source}
 use Rattle.dim_generate.proofs.GeneratedLemmas.{named_is, assembled_again}
 use Rattle.dim_generate.proofs.generating.generated.Goals as goal

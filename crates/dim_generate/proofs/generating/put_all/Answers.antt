@@ -7,7 +7,7 @@ use Rattle.std.specs.String.{string_bytes}
 use Rattle.std.specs.List.{flat_map}
 use Rattle.dim_asm.specs.Printing.{thread_line}
 use Rattle.dim_asm.specs.Spelling.{function_lines, text_of}
-use Rattle.dim_run.specs.Schedule.{after}
+use Rattle.dim_schedule.specs.Drawn.{after}
 use Rattle.dim_generate.specs.Generated.{from, lock_name}
 use Rattle.dim_generate.specs.Drafted.{taker_of, caller_of, started, generated_source}
 use Rattle.dim_generate.proofs.generating.put_all.Goals as goal

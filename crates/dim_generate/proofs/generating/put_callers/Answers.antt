@@ -1,6 +1,6 @@
 use Rattle.std.proofs.Common.{◌≡◌, ◌+◌, ◌*◌, ap, ◌∙◌, refl, arith}
 use Rattle.std.specs.Prelude.{◌%◌}
-use Rattle.dim_run.specs.Schedule.{word, after}
+use Rattle.dim_schedule.specs.Drawn.{word, after}
 use Rattle.dim_generate.specs.Drafted.{caller_of, caller_draft, word_in}
 use Rattle.dim_generate.proofs.Drawing.{no_functions, functions_grown, one_later, none_taken}
 use Rattle.dim_generate.proofs.generating.put_callers.Goals as goal

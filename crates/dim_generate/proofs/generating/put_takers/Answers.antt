@@ -1,5 +1,5 @@
 use Rattle.std.proofs.Common.{◌≡◌, ◌+◌, ◌*◌, ap, ◌∙◌, refl, arith}
-use Rattle.dim_run.specs.Schedule.{word, after}
+use Rattle.dim_schedule.specs.Drawn.{word, after}
 use Rattle.dim_generate.specs.Generated.{first_lock, second_lock}
 use Rattle.dim_generate.specs.Drafted.{taker_of, taker_draft, word_in}
 use Rattle.dim_generate.proofs.Drawing.{no_functions, functions_grown, one_later, none_taken}

@@ -2,7 +2,7 @@ use Rattle.std.proofs.Common.{◌≡◌, ◌++◌, ◌*◌, map}
 use Rattle.std.specs.String.{string_bytes}
 use Rattle.std.specs.List.{flat_map}
 use Rattle.dim_asm.specs.Spelling.{function_lines, text_of}
-use Rattle.dim_run.specs.Schedule.{after}
+use Rattle.dim_schedule.specs.Drawn.{after}
 use Rattle.dim_generate.specs.Generated.{from}
 use Rattle.dim_generate.specs.Drafted.{taker_of}
 use Rattle.dim_generate.proofs.generating.put_takers.Given as goal

@@ -1,8 +1,8 @@
 use Rattle.std.proofs.Common.{ℕ, List, Some, ap, ◌∙◌}
 use Rattle.dim_base.specs.Files.{Named, with_file}
 use Rattle.dim_words.specs.Commands.{check_words}
-use Rattle.dim_commands.specs.Course.{after_calls}
-use Rattle.dim_commands.specs.Judging.{given_of, judged_course}
+use Rattle.dim_inquiry.specs.Course.{after_calls}
+use Rattle.dim_inquiry.specs.Judging.{given_of, judged_course}
 use Rattle.picture.proofs.draw.draw.Goals as goal
 
 pub returns : goal.returns

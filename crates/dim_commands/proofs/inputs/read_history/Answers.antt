@@ -1,5 +1,0 @@
-use Rattle.dim_commands.proofs.ReadNames.{is_read}
-use Rattle.dim_commands.proofs.inputs.read_history.Goals as goal
-
-pub returns-in-Ok-clause-names : goal.returns-in-Ok-clause-names
-returns-in-Ok-clause-names c = is_read c.in-Ok.history c.in-Ok.ensures.names c.in-Ok.ensures.history c.in-Ok.ensures.near

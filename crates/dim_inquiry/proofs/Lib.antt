@@ -1,0 +1,13 @@
+pub mod CallLemmas
+pub mod CheckLemmas
+pub mod CourseLemmas
+pub mod Exports
+pub mod FetchLemmas
+pub mod InputLemmas
+pub mod PredictLemmas
+pub mod ReadNames
+pub mod ReportLemmas
+pub mod ReportedLemmas
+pub mod ShowLemmas
+pub mod SwitchLemmas
+pub mod UnderLemmas

@@ -1,0 +1,10 @@
+pub mod Check
+pub mod Course
+pub mod Inputs
+pub mod Judging
+pub mod Predict
+pub mod Report
+pub mod Show
+pub mod Switch
+pub mod Taking
+pub mod Why
