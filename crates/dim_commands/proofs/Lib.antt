@@ -8,4 +8,5 @@ pub mod LiveLemmas
 pub mod RunLemmas
 pub mod SpelledLemmas
 pub mod StoreLemmas
+pub mod WholeLemmas
 mod TellingLemmas

@@ -6,3 +6,4 @@ pub mod Live
 pub mod Output
 pub mod Report
 pub mod Run
+pub mod Whole

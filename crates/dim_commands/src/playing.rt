@@ -1,26 +1,21 @@
 //! The run of a program, and the texts that it leaves.
-ghost use Rattle.std.specs.Prelude.{◌≡◌, ◌≤◌, length, map, IfOk, OnOk, Ok};
+ghost use Rattle.std.specs.Prelude.{◌≡◌, ◌≤◌, length, IfOk, OnOk, Ok};
 ghost use Rattle.dim_asm.specs.Bound.{IsBound};
 ghost use Rattle.dim_rag.specs.History.{past};
-ghost use Rattle.dim_events.specs.Kinds.{totals_of};
-ghost use Rattle.dim_gate.specs.Immune.{IsImmune};
-ghost use Rattle.dim_gate.specs.Kinds.{kind_of};
 ghost use Rattle.dim_history_file.specs.Grammar.{AreNear};
 ghost use Rattle.dim_history_file.specs.Judging.{history_of};
 ghost use Rattle.dim_history_file.specs.Spelling.{history_text};
 ghost use Rattle.dim_history_file.specs.Value.{named};
-ghost use Rattle.dim_run.specs.Crew.{rules_of};
-ghost use Rattle.dim_run.specs.Complete.{IsComplete};
 ghost use Rattle.dim_execution.specs.Executes.{Executes};
 ghost use Rattle.dim_execution.specs.Start.{gate_of};
 ghost use Rattle.dim_run.specs.Gates.{risen};
-ghost use Rattle.dim_run.specs.Grown.{grown};
 ghost use Rattle.dim_run.specs.Living.{by_threads};
-ghost use Rattle.dim_run.specs.Run.{outcome_of, ends_after, played};
+ghost use Rattle.dim_run.specs.Run.{played};
 ghost use Rattle.dim_schedule.specs.Settings.{AreSettings};
 ghost use Rattle.dim_run.specs.Spelled.{AreSpelled};
 ghost use Rattle.dim_trace.specs.Text.{trace_text};
 ghost use Rattle.dim_commands.specs.Lawful.{ReadsBack};
+ghost use Rattle.dim_commands.specs.Whole.{IsWhole};
 
 use crate::storing::RunTexts;
 use dim_base::OutOfMemory;
@@ -45,24 +40,7 @@ pub fn played(alloc: Global, both: &Inputs, s: &Settings) -> Result<KeptRun, Out
     ensures entries { IfOk result
         (λ run. run.tables.entries ≡ played both.now.program both.now.history.catalogue.sigs
         s.now) }
-    ensures catalogue { IfOk result
-        (λ run. run.catalogue.sigs ≡ grown both.now.history.catalogue.sigs s.now.depth
-        run.tables.entries) }
-    ensures ends { IfOk result
-        (λ run. run.ends.items ≡ ends_after both.now.program s.now run.tables.entries) }
-    ensures outcome { IfOk result
-        (λ run. run.outcome ≡ outcome_of both.now.program run.tables.entries) }
-    ensures executes { IfOk result
-        (λ run. Executes (gate_of both.now.program both.now.history.catalogue.sigs s.now.depth)
-        both.now.program s.now.fuel run.tables.entries) }
-    ensures immune { IfOk result
-        (λ run. IsImmune both.now.history.catalogue.sigs s.now.depth (past run.tables.entries)) }
-    ensures complete { IfOk result
-        (λ run. IsComplete (rules_of both.now.program both.now.history.catalogue.sigs s.now)
-        (past run.tables.entries)) }
-    ensures spelled { IfOk result (λ run. AreSpelled both.now.history.names run.catalogue.sigs) }
-    ensures totals { IfOk result (λ run. run.totals ≡ totals_of (map kind_of run.tables.entries)) }
-    ensures room { IfOk result (λ run. length run.tables.entries ≤ 1048576) }
+    ensures whole { IfOk result (IsWhole both.now s.now) }
 {
     immune_law();
     complete_law();
@@ -84,24 +62,7 @@ pub fn lived<H: House, R: Threads + Wait + Sync>(
     requires few { length both.now.history.catalogue.sigs ≤ 4080 }
     requires bound { IsBound both.now.history.names both.now.program }
     requires near { AreNear both.now.history.catalogue.sigs }
-    ensures catalogue { IfOk result
-        (λ run. run.catalogue.sigs ≡ grown both.now.history.catalogue.sigs s.now.depth
-        run.tables.entries) }
-    ensures ends { IfOk result
-        (λ run. run.ends.items ≡ ends_after both.now.program s.now run.tables.entries) }
-    ensures outcome { IfOk result
-        (λ run. run.outcome ≡ outcome_of both.now.program run.tables.entries) }
-    ensures executes { IfOk result
-        (λ run. Executes (gate_of both.now.program both.now.history.catalogue.sigs s.now.depth)
-        both.now.program s.now.fuel run.tables.entries) }
-    ensures immune { IfOk result
-        (λ run. IsImmune both.now.history.catalogue.sigs s.now.depth (past run.tables.entries)) }
-    ensures complete { IfOk result
-        (λ run. IsComplete (rules_of both.now.program both.now.history.catalogue.sigs s.now)
-        (past run.tables.entries)) }
-    ensures spelled { IfOk result (λ run. AreSpelled both.now.history.names run.catalogue.sigs) }
-    ensures totals { IfOk result (λ run. run.totals ≡ totals_of (map kind_of run.tables.entries)) }
-    ensures room { IfOk result (λ run. length run.tables.entries ≤ 1048576) }
+    ensures whole { IfOk result (IsWhole both.now s.now) }
     ensures count { IfOk result
         (λ run. H.count house.new ≡ risen (by_threads (past run.tables.entries))
         (H.count house.old)) }

@@ -12,5 +12,5 @@ returns c =
     let is : IsPlayed x c.args.s.now b.history.names b.program b.history.catalogue.sigs run.tables.entries =
     is_played x c.args.s.now b.history.names b.program b.history.catalogue.sigs run.tables.entries c.in_ok-both.ensures.names c.in_ok-both.ensures.program c.in_ok-both.ensures.loaded c.in_ok-whole.ensures.entries in
     subst (λ (z : Report). IfOk c.ran.result (λ (r : Report). r ≡ z))
-    (report_is x c.args.s.now b.history.names b.program b.history.catalogue.sigs run.catalogue.sigs run.tables.entries run.outcome run.ends.items is c.in_ok-whole.ensures.catalogue c.in_ok-whole.ensures.outcome c.in_ok-whole.ensures.ends)
+    (report_is x c.args.s.now b.history.names b.program b.history.catalogue.sigs run.catalogue.sigs run.tables.entries run.outcome run.ends.items is c.in_ok-whole.ensures.whole.catalogue c.in_ok-whole.ensures.whole.outcome c.in_ok-whole.ensures.whole.ends)
     c.ran.ensures

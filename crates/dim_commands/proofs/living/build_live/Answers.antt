@@ -7,7 +7,7 @@ returns g c =
     let b = c.in_ok-both.both in
     let run = c.in_ok-whole.whole in
     let x = inputs_of c.args.inputs in
-    let of_run = c.in_ok-whole.ensures in
+    let of_run = c.in_ok-whole.ensures.whole in
     let is : IsRun x c.args.s.now b.history.names b.program b.history.catalogue.sigs run.catalogue.sigs run.tables.entries run.outcome run.ends.items (g.H.House.count c.args.house.now) (g.H.House.count c.lived.new.house) =
     record {
       known_are = of_run.catalogue;
@@ -19,7 +19,7 @@ returns g c =
       trace_again = c.in_ok-texts.ensures.trace_again;
       outcome_is = of_run.outcome;
       ends_are = of_run.ends;
-      counted = of_run.count;
+      counted = c.in_ok-whole.ensures.count;
     } in
     record {
       lived =

@@ -9,7 +9,7 @@ returns-clause-history c =
     let is : IsPlayed (inputs_of c.args.inputs) c.args.s.now b.history.names b.program b.history.catalogue.sigs c.in_ok-whole.whole.tables.entries =
     is_played (inputs_of c.args.inputs) c.args.s.now b.history.names b.program b.history.catalogue.sigs c.in_ok-whole.whole.tables.entries c.in_ok-both.ensures.names c.in_ok-both.ensures.program c.in_ok-both.ensures.loaded c.in_ok-whole.ensures.entries in
     let run = c.in_ok-whole.whole in
-    c.in_ok-texts.ensures.history ∙ history_is (inputs_of c.args.inputs) c.args.s.now b.history.names b.program b.history.catalogue.sigs run.catalogue.sigs run.tables.entries is c.in_ok-whole.ensures.catalogue
+    c.in_ok-texts.ensures.history ∙ history_is (inputs_of c.args.inputs) c.args.s.now b.history.names b.program b.history.catalogue.sigs run.catalogue.sigs run.tables.entries is c.in_ok-whole.ensures.whole.catalogue
 
 pub returns-clause-trace : goal.returns-clause-trace
 returns-clause-trace c =
@@ -25,7 +25,7 @@ returns-clause-report c =
     is_played (inputs_of c.args.inputs) c.args.s.now b.history.names b.program b.history.catalogue.sigs c.in_ok-whole.whole.tables.entries c.in_ok-both.ensures.names c.in_ok-both.ensures.program c.in_ok-both.ensures.loaded c.in_ok-whole.ensures.entries in
     let run = c.in_ok-whole.whole in
     c.in_ok-report.ensures
-    ∙ report_is (inputs_of c.args.inputs) c.args.s.now b.history.names b.program b.history.catalogue.sigs run.catalogue.sigs run.tables.entries run.outcome run.ends.items is c.in_ok-whole.ensures.catalogue c.in_ok-whole.ensures.outcome c.in_ok-whole.ensures.ends
+    ∙ report_is (inputs_of c.args.inputs) c.args.s.now b.history.names b.program b.history.catalogue.sigs run.catalogue.sigs run.tables.entries run.outcome run.ends.items is c.in_ok-whole.ensures.whole.catalogue c.in_ok-whole.ensures.whole.outcome c.in_ok-whole.ensures.whole.ends
 
 pub returns-clause-lawful : goal.returns-clause-lawful
 returns-clause-lawful c =
@@ -33,4 +33,4 @@ returns-clause-lawful c =
     let is : IsPlayed (inputs_of c.args.inputs) c.args.s.now b.history.names b.program b.history.catalogue.sigs c.in_ok-whole.whole.tables.entries =
     is_played (inputs_of c.args.inputs) c.args.s.now b.history.names b.program b.history.catalogue.sigs c.in_ok-whole.whole.tables.entries c.in_ok-both.ensures.names c.in_ok-both.ensures.program c.in_ok-both.ensures.loaded c.in_ok-whole.ensures.entries in
     let run = c.in_ok-whole.whole in
-    lawful_is (inputs_of c.args.inputs) c.args.s.now b.history.names b.program b.history.catalogue.sigs run.catalogue.sigs run.tables.entries is c.in_ok-whole.ensures.catalogue c.in_ok-both.ensures.read c.in_ok-whole.ensures.executes c.in_ok-whole.ensures.immune c.in_ok-whole.ensures.complete c.in_ok-texts.ensures.again c.in_ok-texts.ensures.trace_again
+    lawful_is (inputs_of c.args.inputs) c.args.s.now b.history.names b.program b.history.catalogue.sigs run.catalogue.sigs run.tables.entries is c.in_ok-whole.ensures.whole.catalogue c.in_ok-both.ensures.read c.in_ok-whole.ensures.whole.executes c.in_ok-whole.ensures.whole.immune c.in_ok-whole.ensures.whole.complete c.in_ok-texts.ensures.again c.in_ok-texts.ensures.trace_again
