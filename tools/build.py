@@ -4,14 +4,10 @@ proved side by side.
 
 Each crate that the program stands on is made into a library by `rt lib`, once those below it are there, and the program at last by
 `rt run`. One crate at a time is proved in the repository itself, first those with the longest chain of others behind them, with a job for
-each processor. The others are proved in copies of its sources, with one job and at a lower priority, so that they take the time that the
-first leaves. The copies lie in a folder for what passes and are gone at the end: rt lets one command work in a folder at a time. What a
-crate stands on is put there before, as it was made, and what was proved in a copy is put back. How many there are at once goes by the
+each processor. The others are proved in copies of its sources, with half as many and at a lower priority, so that they take the time that
+the first leaves. The copies lie in a folder for what passes and are gone at the end: rt lets one command work in a folder at a time. What
+a crate stands on is put there before, as it was made, and what was proved in a copy is put back. How many there are at once goes by the
 processors and the memory.
-
-A library has the statements of what it proves, which is all that the crates above it read. Where nothing is kept of a crate's proof,
-nothing will be, but of the crate below the program: a proof that keeps its work goes over it in parts, of which each proves the lemmas that
-it needs anew, so that it takes up to four times the time. Where something is kept, from a build or from `rt check`, it is taken up.
 
 What is at work is told on standard error, and all that rt says stands in out/build.log of the program's crate."""
 import os
@@ -112,36 +108,13 @@ def hand_on(name, part, here, there):
         shutil.copytree(made, place, copy_function=put)
 
 
-def is_kept(name, folder):
-    """Whether something is kept of a crate's proof."""
-    kept = folder / "crates" / name / "out" / "incremental"
-    return kept.is_dir() and any(kept.iterdir())
-
-
-def keep_nothing(name, folder):
-    """Has a proof of a crate keep nothing: rattle goes on without a folder for that where there is a file in its place."""
-    out = folder / "crates" / name / "out"
-    out.mkdir(exist_ok=True)
-    shutil.rmtree(out / "incremental", ignore_errors=True)
-    (out / "incremental").write_text("")
-
-
-def keep_again(name, folder):
-    """Lets later proofs of a crate keep their work."""
-    kept = folder / "crates" / name / "out" / "incremental"
-    if kept.is_file():
-        kept.unlink()
-
-
 class Build:
     def __init__(self, beside):
         self.crates = crates_below(PROGRAM)
         self.chains = chains(self.crates)
         self.done, self.running, self.began = set(), {}, time.time()
-        # The crates whose work is kept: the program, and those on which none but it stands.
-        self.kept = [it for it in self.crates if {other for other in self.crates if it in self.crates[other]} <= {PROGRAM}]
         self.processors = len(os.sched_getaffinity(0))
-        copies = min(3, max(0, self.processors - 1))
+        copies = min(2, max(0, self.processors - 2))
         self.folders = [ROOT, *(copied(self.crates, pathlib.Path(beside, str(it))) for it in range(copies))]
 
     def ready(self):
@@ -151,14 +124,12 @@ class Build:
         return sorted(found, key=lambda it: -self.chains[it])
 
     def start(self, name, folder, jobs):
-        words = ["rt", "run", "--", "--build"] if name == PROGRAM else ["rt", "lib", "--statements", "--jobs", str(jobs)]
+        words = ["rt", "run", "--", "--build"] if name == PROGRAM else ["rt", "lib", "--jobs", str(jobs)]
         if folder != ROOT:
             words = ["nice", "-n", str(LOWER), *words]
             for below in crates_below(name):
                 hand_on(below, "rlib", ROOT, folder)
             hand_on(name, "incremental", ROOT, folder)
-        if not is_kept(name, folder) and name not in self.kept:
-            keep_nothing(name, folder)
         with open(LOG, "a") as log:
             at = folder / "crates" / name
             child = subprocess.Popen(words, cwd=at, stdin=subprocess.DEVNULL, stdout=log, stderr=log, preexec_fn=os.setpgrp)
@@ -171,14 +142,13 @@ class Build:
             free = [it for it in self.folders if it not in busy]
             if not free:
                 return
-            jobs = self.processors if free[0] == ROOT else 1
+            jobs = self.processors if free[0] == ROOT else max(1, self.processors // 2)
             if self.running and BYTES + BYTES_MORE * (jobs - 1) > free_memory():
                 return
             self.start(name, free[0], jobs)
 
     def put_back(self, name, folder):
         """Puts what a copy made of a crate into the repository, in place of what stands there."""
-        keep_again(name, folder)
         if folder != ROOT:
             for part in ("rlib", "incremental"):
                 shutil.rmtree(ROOT / "crates" / name / "out" / part, ignore_errors=True)
@@ -206,9 +176,8 @@ class Build:
         """Ends all that is at work, and then this."""
         for child in self.running:
             os.killpg(child.pid, signal.SIGTERM)
-        for child, (name, folder) in self.running.items():
+        for child in self.running:
             child.wait()
-            keep_again(name, folder)
         print(file=sys.stderr)
         sys.exit(status)
 
