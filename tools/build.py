@@ -3,7 +3,7 @@
 proved side by side.
 
 Each crate that the program stands on is made into a library by `rt lib`, once those below it are there, and the program at last by
-`rt run`. One crate at a time is proved in the repository itself, first those with the longest chain of others behind them, with a job for
+`rt run` (both by way of rt_once.py). One crate at a time is proved in the repository itself, first those with the longest chain of others behind them, with a job for
 each processor. The others are proved in copies of its sources, with half as many and at a lower priority, so that they take the time that
 the first leaves. The copies lie in a folder for what passes and are gone at the end: rt lets one command work in a folder at a time. What
 a crate stands on is put there before, as it was made, and what was proved in a copy is put back. How many there are at once goes by the
@@ -27,6 +27,14 @@ LOG = OUT / "build.log"
 LOWER = 5
 # What a proof takes with one job, and for each further one.
 BYTES, BYTES_MORE = 2_500_000_000, 1_500_000_000
+
+
+def rt_words():
+    """The words that start rt: its own, where it is the kit's, by way of rt_once.py, which saves it minutes."""
+    rt = os.path.realpath(shutil.which("rt") or "rt")
+    if os.path.isfile(os.path.join(os.path.dirname(rt), "rtlib.py")):
+        return [sys.executable, str(ROOT / "tools" / "rt_once.py"), rt]
+    return ["rt"]
 
 
 def listed():
@@ -112,7 +120,7 @@ class Build:
     def __init__(self, beside):
         self.crates = crates_below(PROGRAM)
         self.chains = chains(self.crates)
-        self.done, self.running, self.began = set(), {}, time.time()
+        self.done, self.running, self.began, self.rt = set(), {}, time.time(), rt_words()
         self.processors = len(os.sched_getaffinity(0))
         copies = min(2, max(0, self.processors - 2))
         self.folders = [ROOT, *(copied(self.crates, pathlib.Path(beside, str(it))) for it in range(copies))]
@@ -124,7 +132,7 @@ class Build:
         return sorted(found, key=lambda it: -self.chains[it])
 
     def start(self, name, folder, jobs):
-        words = ["rt", "run", "--", "--build"] if name == PROGRAM else ["rt", "lib", "--jobs", str(jobs)]
+        words = [*self.rt, *(["run", "--", "--build"] if name == PROGRAM else ["lib", "--jobs", str(jobs)])]
         if folder != ROOT:
             words = ["nice", "-n", str(LOWER), *words]
             for below in crates_below(name):
