@@ -2,12 +2,12 @@
 """build.py [PROGRAM]: proves and builds a program of this repository, dim where none is named. Crates that don't stand on each other are
 proved side by side.
 
-Each crate that the program stands on is made into a library by `rt lib`, once those below it are there, and the program at last by
-`rt run` (both by way of rt_once.py). One crate at a time is proved in the repository itself, first those with the longest chain of others behind them, with a job for
-each processor. The others are proved in copies of its sources, with half as many and at a lower priority, so that they take the time that
-the first leaves. The copies lie in a folder for what passes and are gone at the end: rt lets one command work in a folder at a time. What
-a crate stands on is put there before, as it was made, and what was proved in a copy is put back. How many there are at once goes by the
-processors and the memory.
+Each crate that the program stands on is made into a library by `rt lib`, once those below it are there, and the program at last by `rt run`
+(both by way of rt_once.py). One crate at a time is proved in the repository itself, first those with the longest chain of others behind
+them, with a job for each processor. The others are proved in copies of its sources, with half as many and at a lower priority, so that they
+take the time that the first leaves. The copies lie in a folder for what passes and are gone at the end: rt lets one command work in a
+folder at a time. What a crate stands on is put there before, as it was made, and what was proved in a copy is put back. How many there are
+at once goes by the processors and the memory.
 
 What is at work is told on standard error, and all that rt says stands in out/build.log of the program's crate."""
 import os
