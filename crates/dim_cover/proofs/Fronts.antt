@@ -1,4 +1,4 @@
--- Edges that agree have their innermost frames in one bucket.
+-- Edges that agree have their innermost frames, and their two innermost frames, in one bucket.
 use Rattle.std.proofs.Common.{◌≡◌, ℕ, zero, suc, ◌+◌, ◌-◌, ◌<◌, ◌≤◌, ◌⊎◌, true, false, cond, eqb, refl, ap, sym, ◌∙◌, subst, inl, inr, arith, List, [], ◌∷◌, ◌++◌, length, take, drop, get_or, set, get_or-set_other, filter}
 use Rattle.std.specs.Prelude.{All, nat_lt, replicate}
 use Rattle.std.specs.Cmp.Lexicographic.{pointwise}
@@ -13,7 +13,7 @@ use Rattle.dim_stack.specs.Order.{frame_eq}
 use Rattle.dim_rag.specs.declared.entry.Edge.{Edge}
 use Rattle.dim_rag.specs.Born.{In}
 use Rattle.dim_cover.specs.Cover.{agrees}
-use Rattle.dim_cover.specs.Index.{AreFronts, AreLinked, AreTurned, GoOnNear, AreSlots, common, edge_in, edges_in, first_bucket, front, fronted, link, next_of, no_edge, on_at, turned}
+use Rattle.dim_cover.specs.Index.{AreCounts, AreLinked, AreTurned, GoOnNear, AreSlots, common, counted, edge_in, edges_in, first_bucket, front, fronted, link, next_of, no_edge, on_at, pair, pair_bucket, turned}
 use Rattle.dim_cover.proofs.Common.{agree_common, lt_zero}
 use Rattle.dim_cover.proofs.Groups.{frames_same, same_frames}
 use Rattle.dim_cover.proofs.Kept.{in_front}
@@ -42,34 +42,35 @@ apart_common a b n = elim (cases_Bool (pointwise frame_eq (take 1 a) (take 1 b))
 ]
 
 -- one edge after another
-abbrev own : ℕ → Edge → ℕ
-own b e = cond (eqb (front e.stack) b) 1 0
+module _ (f : List Frame → ℕ) where
+  abbrev own : ℕ → Edge → ℕ
+  own b e = cond (eqb (f e.stack) b) 1 0
 
-fronted_first : (b : ℕ) (e : Edge) (es : List Edge) → fronted b (e ∷ es) ≡ own b e + fronted b es
-fronted_first b e es = elim (cases_Bool (eqb (front e.stack) b)) [
-  | inl q ↦
-      let here : own b e ≡ 1 = ap (λ t. cond t 1 0) q in
-      let all : fronted b (e ∷ es) ≡ suc (fronted b es) = ap (λ t. length (cond t (e ∷ filter (λ (x : Edge). eqb (front x.stack) b) es) (filter (λ (x : Edge). eqb (front x.stack) b) es))) q in
-      omega (arith, here, all)
-  | inr q ↦
-      let here : own b e ≡ 0 = ap (λ t. cond t 1 0) q in
-      let all : fronted b (e ∷ es) ≡ fronted b es = ap (λ t. length (cond t (e ∷ filter (λ (x : Edge). eqb (front x.stack) b) es) (filter (λ (x : Edge). eqb (front x.stack) b) es))) q in
-      omega (arith, here, all)
-]
+  counted_first : (b : ℕ) (e : Edge) (es : List Edge) → counted f b (e ∷ es) ≡ own b e + counted f b es
+  counted_first b e es = elim (cases_Bool (eqb (f e.stack) b)) [
+    | inl q ↦
+        let here : own b e ≡ 1 = ap (λ t. cond t 1 0) q in
+        let all : counted f b (e ∷ es) ≡ suc (counted f b es) = ap (λ t. length (cond t (e ∷ filter (λ (x : Edge). eqb (f x.stack) b) es) (filter (λ (x : Edge). eqb (f x.stack) b) es))) q in
+        omega (arith, here, all)
+    | inr q ↦
+        let here : own b e ≡ 0 = ap (λ t. cond t 1 0) q in
+        let all : counted f b (e ∷ es) ≡ counted f b es = ap (λ t. length (cond t (e ∷ filter (λ (x : Edge). eqb (f x.stack) b) es) (filter (λ (x : Edge). eqb (f x.stack) b) es))) q in
+        omega (arith, here, all)
+  ]
 
-own_there : (b : ℕ) (e : Edge) → front e.stack ≡ b → own b e ≡ 1
-own_there b e q = ap (λ t. cond t 1 0) (eq-eqb (front e.stack) b q)
+  own_there : (b : ℕ) (e : Edge) → f e.stack ≡ b → own b e ≡ 1
+  own_there b e q = ap (λ t. cond t 1 0) (eq-eqb (f e.stack) b q)
 
-own_other : (b : ℕ) (e : Edge) → (b ≡ front e.stack → ⊥) → own b e ≡ 0
-own_other b e n = ap (λ t. cond t 1 0) (ne_eqb (front e.stack) b (λ q. n (sym q)))
+  own_other : (b : ℕ) (e : Edge) → (b ≡ f e.stack → ⊥) → own b e ≡ 0
+  own_other b e n = ap (λ t. cond t 1 0) (ne_eqb (f e.stack) b (λ q. n (sym q)))
 
-fronted_push : (b : ℕ) (es : List Edge) (e : Edge) → fronted b (es ++ e ∷ []) ≡ fronted b es + own b e
-fronted_push b [] e = (let k = fronted_first b e [] in omega (arith, k))
-fronted_push b (x ∷ es) e =
-    let k = fronted_push b es e in
-    let first = fronted_first b x es in
-    let all = fronted_first b x (es ++ e ∷ []) in
-    omega (arith, k, first, all)
+  counted_push : (b : ℕ) (es : List Edge) (e : Edge) → counted f b (es ++ e ∷ []) ≡ counted f b es + own b e
+  counted_push b [] e = (let k = counted_first b e [] in omega (arith, k))
+  counted_push b (x ∷ es) e =
+      let k = counted_push b es e in
+      let first = counted_first b x es in
+      let all = counted_first b x (es ++ e ∷ []) in
+      omega (arith, k, first, all)
 
 cases_at : (b c : ℕ) → (b ≡ c) ⊎ (b ≡ c → ⊥)
 cases_at b c = elim (cases_lt b c) [
@@ -77,8 +78,8 @@ cases_at b c = elim (cases_lt b c) [
   | inr le ↦ elim (cases_lt c b) [ inl lt ↦ inr (λ e. omega (arith, lt, e)) | inr ge ↦ inl (omega (arith, le, ge)) ]
 ]
 
--- a stack agrees with no edge of another bucket
-pub other_front : (d : ℕ) (s : List Frame) (e : Edge) → 1 ≤ d → (front e.stack ≡ front s → ⊥) → agrees d s e ≡ false
+-- a stack agrees with no edge of another bucket of innermost frames
+other_front : (d : ℕ) (s : List Frame) (e : Edge) → 1 ≤ d → (front e.stack ≡ front s → ⊥) → agrees d s e ≡ false
 other_front d s e low n = elim (cases_Bool (agrees d s e)) [
   | inl a ↦
       let deep : d ≡ d - 1 + 1 = omega (arith, low) in
@@ -86,85 +87,117 @@ other_front d s e low n = elim (cases_Bool (agrees d s e)) [
   | inr a ↦ a
 ]
 
--- where its bucket has no edge, with none of them, nor with one more that doesn't agree
-pub none_agree : (d : ℕ) (s : List Frame) (es : List Edge) (e : Edge) → 1 ≤ d → fronted (front s) es ≡ 0 → agrees d s e ≡ false → filter (agrees d s) (es ++ e ∷ []) ≡ []
-none_agree d s [] e low q far = ap (λ t. cond t (e ∷ []) []) far
-none_agree d s (x ∷ es) e low q far =
-    let first = fronted_first (front s) x es in
-    let apart : agrees d s x ≡ false = other_front d s x low (λ f. let one = own_there (front s) x f in omega (arith, q, first, one)) in
-    ap (λ t. cond t (x ∷ filter (agrees d s) (es ++ e ∷ [])) (filter (agrees d s) (es ++ e ∷ []))) apart
-    ∙ none_agree d s es e low (omega (arith, q, first)) far
+pair_of : (d : ℕ) (a : List Frame) → take 2 (take (suc (suc d)) a) ≡ take 2 a
+pair_of d [] = refl
+pair_of d (x ∷ []) = refl
+pair_of d (x ∷ y ∷ a) = refl
 
-pub no_fronts : AreFronts (replicate 4096 0) []
-no_fronts = record { size = length-replicate {A = ℕ} 4096 0; counts = λ b low. get_or-replicate 4096 b 0 0 low }
+-- nor, at depth 2 and beyond, with one of another bucket of two
+pub other_pair : (d : ℕ) (s : List Frame) (e : Edge) → 2 ≤ d → (pair e.stack ≡ pair s → ⊥) → agrees d s e ≡ false
+other_pair d s e low n = elim (cases_Bool (agrees d s e)) [
+  | inl a ↦
+      let deep : d ≡ suc (suc (d - 2)) = omega (arith, low) in
+      let same : take (suc (suc (d - 2))) e.stack ≡ take (suc (suc (d - 2))) s = same_frames _ _ (ap (λ m. pointwise frame_eq (take m e.stack) (take m s)) (sym deep) ∙ a) in
+      absurd (n (ap pair_bucket (sym (pair_of (d - 2) e.stack) ∙ ap (take 2) same ∙ pair_of (d - 2) s)))
+  | inr a ↦ a
+]
+
+-- where its bucket has no edge, it agrees with none of them
+none_in : (f : List Frame → ℕ) (d : ℕ) (s : List Frame) → ((e : Edge) → (f e.stack ≡ f s → ⊥) → agrees d s e ≡ false) → (es : List Edge) → counted f (f s) es ≡ 0 → filter (agrees d s) es ≡ []
+none_in f d s other [] q = refl
+none_in f d s other (x ∷ es) q =
+    let first = counted_first f (f s) x es in
+    let apart : agrees d s x ≡ false = other x (λ w. let one = own_there f (f s) x w in omega (arith, q, first, one)) in
+    ap (λ t. cond t (x ∷ filter (agrees d s) es) (filter (agrees d s) es)) apart
+    ∙ none_in f d s other es (omega (arith, q, first))
+
+pub none_by_front : (d : ℕ) (s : List Frame) (es : List Edge) → 1 ≤ d → counted front (front s) es ≡ 0 → filter (agrees d s) es ≡ []
+none_by_front d s es low q = none_in front d s (λ e n. other_front d s e low n) es q
+
+pub none_by_pair : (d : ℕ) (s : List Frame) (es : List Edge) → 2 ≤ d → counted pair (pair s) es ≡ 0 → filter (agrees d s) es ≡ []
+none_by_pair d s es low q = none_in pair d s (λ e n. other_pair d s e low n) es q
+
+-- nor with one more that doesn't agree
+pub none_agree : (d : ℕ) (s : List Frame) (es : List Edge) (e : Edge) → filter (agrees d s) es ≡ [] → agrees d s e ≡ false → filter (agrees d s) (es ++ e ∷ []) ≡ []
+none_agree d s [] e none far = ap (λ t. cond t (e ∷ []) []) far
+none_agree d s (x ∷ es) e none far = elim (cases_Bool (agrees d s x)) [
+  | inl a ↦ absurd (let k : x ∷ filter (agrees d s) es ≡ [] = sym (ap (λ t. cond t (x ∷ filter (agrees d s) es) (filter (agrees d s) es)) a) ∙ none in cc)
+  | inr a ↦
+      ap (λ t. cond t (x ∷ filter (agrees d s) (es ++ e ∷ [])) (filter (agrees d s) (es ++ e ∷ []))) a
+      ∙ none_agree d s es e (sym (ap (λ t. cond t (x ∷ filter (agrees d s) es) (filter (agrees d s) es)) a) ∙ none) far
+]
+
+pub no_counts : (f : List Frame → ℕ) → AreCounts f (replicate 4096 0) []
+no_counts f = record { size = length-replicate {A = ℕ} 4096 0; each = λ b low. get_or-replicate 4096 b 0 0 low }
 
 -- one count is read, and one changes
-module _ (fronts : List ℕ) (es : List Edge) (k : AreFronts fronts es) (b : ℕ) (low : b < 4096) where
-  pub count_at : (n : ℕ) → n ≡ get_or fronts b n → n ≡ fronted b es
-  count_at n at = at ∙ get_or_default fronts b n 0 (omega (arith, low, k.size)) ∙ k.counts b low
+module _ (f : List Frame → ℕ) (counts : List ℕ) (es : List Edge) (k : AreCounts f counts es) (b : ℕ) (low : b < 4096) where
+  pub count_at : (n : ℕ) → n ≡ get_or counts b n → n ≡ counted f b es
+  count_at n at = at ∙ get_or_default counts b n 0 (omega (arith, low, k.size)) ∙ k.each b low
 
-  set_front : (es' : List Edge) (n : ℕ) → n ≡ fronted b es' → ((c : ℕ) → (c ≡ b → ⊥) → fronted c es' ≡ fronted c es) → AreFronts (set fronts b n) es'
-  set_front es' n here others = record {
-    size = length-set fronts b n ∙ k.size;
-    counts = λ c small. elim (cases_at c b) [
-      | inl q ↦ get_or-set_at fronts b c n 0 q (omega (arith, low, k.size)) ∙ here ∙ ap (λ x. fronted x es') (sym q)
-      | inr q ↦ get_or-set_other fronts b c n 0 q ∙ k.counts c small ∙ sym (others c q)
+  set_count : (es' : List Edge) (n : ℕ) → n ≡ counted f b es' → ((c : ℕ) → (c ≡ b → ⊥) → counted f c es' ≡ counted f c es) → AreCounts f (set counts b n) es'
+  set_count es' n here others = record {
+    size = length-set counts b n ∙ k.size;
+    each = λ c small. elim (cases_at c b) [
+      | inl q ↦ get_or-set_at counts b c n 0 q (omega (arith, low, k.size)) ∙ here ∙ ap (λ x. counted f x es') (sym q)
+      | inr q ↦ get_or-set_other counts b c n 0 q ∙ k.each c small ∙ sym (others c q)
     ];
   }
 
-  pub fronts_more : (n : ℕ) (e : Edge) → n ≡ fronted b es → b ≡ front e.stack → AreFronts (set fronts b (n + 1)) (es ++ e ∷ [])
-  fronts_more n e was is =
-      set_front (es ++ e ∷ []) (n + 1) (let more = fronted_push b es e in let one = own_there b e (sym is) in omega (arith, was, more, one))
-      (λ c q. let more = fronted_push c es e in let none = own_other c e (λ f. q (f ∙ sym is)) in omega (arith, more, none))
+  pub counts_more : (n : ℕ) (e : Edge) → n ≡ counted f b es → b ≡ f e.stack → AreCounts f (set counts b (n + 1)) (es ++ e ∷ [])
+  counts_more n e was is =
+      set_count (es ++ e ∷ []) (n + 1) (let more = counted_push f b es e in let one = own_there f b e (sym is) in omega (arith, was, more, one))
+      (λ c q. let more = counted_push f c es e in let none = own_other f c e (λ g. q (g ∙ sym is)) in omega (arith, more, none))
 
-module _ (edges : List Edge) where
-  fronted_at : (b : ℕ) (us : List ℕ) (i : ℕ) → i < length us → fronted b (edges_in edges us) ≡ own b (edge_in edges (get_or us i 0)) + fronted b (edges_in edges (take i us ++ drop (suc i) us))
-  fronted_at b [] i lt = absurd (omega arith)
-  fronted_at b (u ∷ us) zero lt = fronted_first b (edge_in edges u) (edges_in edges us)
-  fronted_at b (u ∷ us) (suc i) lt =
-      let k = fronted_at b us i (omega (arith, lt)) in
-      let all = fronted_first b (edge_in edges u) (edges_in edges us) in
-      let rest = fronted_first b (edge_in edges u) (edges_in edges (take i us ++ drop (suc i) us)) in
+module _ (f : List Frame → ℕ) (edges : List Edge) where
+  counted_at : (b : ℕ) (us : List ℕ) (i : ℕ) → i < length us → counted f b (edges_in edges us) ≡ own f b (edge_in edges (get_or us i 0)) + counted f b (edges_in edges (take i us ++ drop (suc i) us))
+  counted_at b [] i lt = absurd (omega arith)
+  counted_at b (u ∷ us) zero lt = counted_first f b (edge_in edges u) (edges_in edges us)
+  counted_at b (u ∷ us) (suc i) lt =
+      let k = counted_at b us i (omega (arith, lt)) in
+      let all = counted_first f b (edge_in edges u) (edges_in edges us) in
+      let rest = counted_first f b (edge_in edges u) (edges_in edges (take i us ++ drop (suc i) us)) in
       omega (arith, k, all, rest)
 
-  pub fronts_less : (fronts us : List ℕ) (i b n : ℕ) → i < length us → b < 4096 → b ≡ front (edge_in edges (get_or us i 0)).stack → n ≡ fronted b (edges_in edges us) → AreFronts fronts (edges_in edges us)
-      → AreFronts (set fronts b (n - 1)) (edges_in edges (take i us ++ drop (suc i) us))
-  fronts_less fronts us i b n lt low is was k =
-      set_front fronts (edges_in edges us) k b low (edges_in edges (take i us ++ drop (suc i) us)) (n - 1)
-      (let all = fronted_at b us i lt in let one = own_there b (edge_in edges (get_or us i 0)) (sym is) in omega (arith, was, all, one))
-      (λ c q. let all = fronted_at c us i lt in let none = own_other c (edge_in edges (get_or us i 0)) (λ f. q (f ∙ sym is)) in omega (arith, all, none))
+  pub counts_less : (counts us : List ℕ) (i b n : ℕ) → i < length us → b < 4096 → b ≡ f (edge_in edges (get_or us i 0)).stack → n ≡ counted f b (edges_in edges us) → AreCounts f counts (edges_in edges us)
+      → AreCounts f (set counts b (n - 1)) (edges_in edges (take i us ++ drop (suc i) us))
+  counts_less counts us i b n lt low is was k =
+      set_count f counts (edges_in edges us) k b low (edges_in edges (take i us ++ drop (suc i) us)) (n - 1)
+      (let all = counted_at b us i lt in let one = own_there f b (edge_in edges (get_or us i 0)) (sym is) in omega (arith, was, all, one))
+      (λ c q. let all = counted_at c us i lt in let none = own_other f c (edge_in edges (get_or us i 0)) (λ g. q (g ∙ sym is)) in omega (arith, all, none))
 
   -- the bucket that is read of an edge in a slot at a place
-  pub front_at : (us : List ℕ) (i : ℕ) → i < length us → All (λ s. s < length edges) us → (b s : ℕ) (e : Edge) → s ≡ get_or us i s → e ≡ get_or edges s e → b ≡ front e.stack → b ≡ front (edge_in edges (get_or us i 0)).stack
-  front_at us i lt within b s e slot at is =
+  pub bucket_at : (us : List ℕ) (i : ℕ) → i < length us → All (λ s. s < length edges) us → (b s : ℕ) (e : Edge) → s ≡ get_or us i s → e ≡ get_or edges s e → b ≡ f e.stack → b ≡ f (edge_in edges (get_or us i 0)).stack
+  bucket_at us i lt within b s e slot at is =
       let here : s ≡ get_or us i 0 = slot ∙ get_or_default us i s 0 lt in
       let low : get_or us i 0 < length edges = All-get_or (λ x. x < length edges) us i 0 lt within in
       let below : s < length edges = omega (arith, here, low) in
-      is ∙ ap (λ (x : Edge). front x.stack) (at ∙ get_or_default edges s e no_edge below) ∙ ap (λ x. front (edge_in edges x).stack) here
+      is ∙ ap (λ (x : Edge). f x.stack) (at ∙ get_or_default edges s e no_edge below) ∙ ap (λ x. f (edge_in edges x).stack) here
 
   -- a slot in use counts
-  pub some_at : (b n : ℕ) (us : List ℕ) (i : ℕ) → i < length us → b ≡ front (edge_in edges (get_or us i 0)).stack → n ≡ fronted b (edges_in edges us) → 1 ≤ n
-  some_at b n us i lt is was = (let all = fronted_at b us i lt in let one = own_there b (edge_in edges (get_or us i 0)) (sym is) in omega (arith, was, all, one))
+  pub some_at : (b n : ℕ) (us : List ℕ) (i : ℕ) → i < length us → b ≡ f (edge_in edges (get_or us i 0)).stack → n ≡ counted f b (edges_in edges us) → 1 ≤ n
+  some_at b n us i lt is was = (let all = counted_at b us i lt in let one = own_there f b (edge_in edges (get_or us i 0)) (sym is) in omega (arith, was, all, one))
 
+module _ (edges : List Edge) where
   -- where a bucket has no edge, no slot's is in it
   none_there : (b : ℕ) (us : List ℕ) → fronted b (edges_in edges us) ≡ 0 → (u : ℕ) → In u us → front (edge_in edges u).stack ≡ b → ⊥
   none_there b [] q u i f = i
   none_there b (v ∷ us) q u (inl e) f =
-      let first = fronted_first b (edge_in edges v) (edges_in edges us) in
-      let one = own_there b (edge_in edges v) (ap (λ x. front (edge_in edges x).stack) e ∙ f) in
+      let first = counted_first front b (edge_in edges v) (edges_in edges us) in
+      let one = own_there front b (edge_in edges v) (ap (λ x. front (edge_in edges x).stack) e ∙ f) in
       omega (arith, q, first, one)
-  none_there b (v ∷ us) q u (inr i) f = none_there b us (let first = fronted_first b (edge_in edges v) (edges_in edges us) in omega (arith, q, first)) u i f
+  none_there b (v ∷ us) q u (inr i) f = none_there b us (let first = counted_first front b (edge_in edges v) (edges_in edges us) in omega (arith, q, first)) u i f
 
   -- where it has one, no other slot's is
   alone : (b : ℕ) (us : List ℕ) (i : ℕ) → i < length us → front (edge_in edges (get_or us i 0)).stack ≡ b → fronted b (edges_in edges us) ≤ 1 → (u : ℕ) → In u (take i us) → front (edge_in edges u).stack ≡ b → ⊥
   alone b [] i lt g few u j f = omega (arith, lt)
   alone b (v ∷ us) zero lt g few u j f = j
   alone b (v ∷ us) (suc i) lt g few u (inl e) f =
-      let first = fronted_first b (edge_in edges v) (edges_in edges us) in
-      let one = own_there b (edge_in edges v) (ap (λ x. front (edge_in edges x).stack) e ∙ f) in
+      let first = counted_first front b (edge_in edges v) (edges_in edges us) in
+      let one = own_there front b (edge_in edges v) (ap (λ x. front (edge_in edges x).stack) e ∙ f) in
       none_there b us (omega (arith, few, first, one)) (get_or us i 0) (in_place us i (omega (arith, lt))) g
   alone b (v ∷ us) (suc i) lt g few u (inr j) f =
-      alone b us i (omega (arith, lt)) g (let first = fronted_first b (edge_in edges v) (edges_in edges us) in omega (arith, few, first)) u j f
+      alone b us i (omega (arith, lt)) g (let first = counted_first front b (edge_in edges v) (edges_in edges us) in omega (arith, few, first)) u j f
 
   -- where none is near, the links stay as an edge comes
   pub on_nothing : (stack : List Frame) (next : ℕ) (us : List ℕ) (links : List (List ℕ)) → fronted (front stack) (edges_in edges us) ≡ 0 → AreTurned us (λ s d x. on_at (common stack (edge_in edges s).stack) next d x) links links
@@ -202,15 +235,15 @@ module _ (edges : List Edge) where
       }
 
 -- a count is small
-pub few_fronted : (edges : List Edge) (links : List (List ℕ)) (used free : List ℕ) (b : ℕ) → AreSlots used free edges links → fronted b (edges_in edges used) ≤ 288
-few_fronted edges links used free b k =
+pub few_counted : (f : List Frame → ℕ) (edges : List Edge) (links : List (List ℕ)) (used free : List ℕ) (b : ℕ) → AreSlots used free edges links → counted f b (edges_in edges used) ≤ 288
+few_counted f edges links used free b k =
     let size : length (edges_in edges used) ≡ length used = length-map used (edge_in edges) in
     let le = few b (edges_in edges used) in
     omega (arith, size, le, k.slots, k.few)
   where
-    few : (b : ℕ) (es : List Edge) → fronted b es ≤ length es
+    few : (b : ℕ) (es : List Edge) → counted f b es ≤ length es
     few b [] = omega arith
-    few b (e ∷ es) = elim (cases_Bool (eqb (front e.stack) b)) [
-      | inl q ↦ (let k = few b es in let first = fronted_first b e es in let one : own b e ≡ 1 = ap (λ t. cond t 1 0) q in omega (arith, k, first, one))
-      | inr q ↦ (let k = few b es in let first = fronted_first b e es in let one : own b e ≡ 0 = ap (λ t. cond t 1 0) q in omega (arith, k, first, one))
+    few b (e ∷ es) = elim (cases_Bool (eqb (f e.stack) b)) [
+      | inl q ↦ (let k = few b es in let first = counted_first f b e es in let one : own f b e ≡ 1 = ap (λ t. cond t 1 0) q in omega (arith, k, first, one))
+      | inr q ↦ (let k = few b es in let first = counted_first f b e es in let one : own f b e ≡ 0 = ap (λ t. cond t 1 0) q in omega (arith, k, first, one))
     ]

@@ -6,4 +6,4 @@ pub returns-else-wanted-tag : goal.returns-else-wanted-tag
 returns-else-wanted-tag c =
     let sig = c.args.sig.now in
     let e = c.args.e.now in
-    sym (unwanted sig.depth sig.stacks c.args.wanted.now e c.requires.deep c.requires.wanted (ap (λ n. get_or c.args.wanted.now n false) (sym c.requires.tag) ∙ c.if-wanted-tag.false))
+    sym (unwanted sig.depth sig.stacks c.args.wanted.now e c.requires.wanted (ap (λ n. get_or c.args.wanted.now n false) (sym c.requires.tag) ∙ c.if-wanted-tag.false))
