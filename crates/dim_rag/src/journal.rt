@@ -1,5 +1,5 @@
 //! The entries of a history, kept in brief.
-ghost use Rattle.std.specs.Prelude.{◌≡◌, ◌+◌, ◌-◌, ◌<◌, ◌≤◌, ◌^◌, [], ◌∷◌, ◌++◌, ◌↔◌, length, slice_get, map, max, All, Some, IsTrue, IfOk, OnOk, OnErr};
+ghost use Rattle.std.specs.Prelude.{◌≡◌, ◌+◌, ◌-◌, ◌*◌, ◌<◌, ◌≤◌, ◌^◌, [], ◌∷◌, ◌++◌, ◌↔◌, length, slice_get, map, max, All, Some, IsTrue, IfOk, OnOk, OnErr};
 ghost use Rattle.dim_rag.specs.Journal.{IsWithin, entries_of};
 ghost use Rattle.dim_rag.specs.Shown.{HasStack, shown};
 ghost use Rattle.dim_rag.specs.Yielded.{is_learn, yielded};
@@ -66,9 +66,10 @@ impl Journal {
         if entries <= self.spare {
             return Ok(());
         }
-        self.briefs.reserve(entries as usize)?;
-        self.frames.reserve(32 * entries as usize)?;
-        self.births.reserve(entries as usize)?;
+        let room = room_for(entries, self.briefs.len());
+        self.briefs.reserve(room)?;
+        self.frames.reserve(32 * room)?;
+        self.births.reserve(room)?;
         self.spare = entries;
         Ok(())
     }
@@ -154,6 +155,18 @@ impl Journal {
     {
         entries_of(alloc, &self.frames, &self.births, &self.briefs)
     }
+}
+
+/// For how many further entries a journal of this length asks room, so as to have it for `entries`.
+///
+/// One that is empty asks for twice as many, since the next `reserve` for as many would else move
+/// all that the first one took.
+fn room_for(entries: u32, len: usize) -> usize
+    ensures low { entries ≤ result }
+    ensures high { result ≤ 2 * entries }
+{
+    let entries = entries as usize;
+    if len == 0 { 2 * entries } else { entries }
 }
 
 /// Appends an entry.
