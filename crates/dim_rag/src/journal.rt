@@ -1,5 +1,5 @@
 //! The entries of a history, kept in brief.
-ghost use Rattle.std.specs.Prelude.{◌≡◌, ◌+◌, ◌-◌, ◌*◌, ◌<◌, ◌≤◌, ◌^◌, [], ◌∷◌, ◌++◌, ◌↔◌, length, slice_get, map, max, All, Some, IsTrue, IfOk, OnOk, OnErr};
+ghost use Rattle.std.specs.Prelude.{◌≡◌, ◌+◌, ◌-◌, ◌<◌, ◌≤◌, ◌^◌, [], ◌∷◌, ◌++◌, ◌↔◌, length, slice_get, map, max, All, Some, IsTrue, IfOk, OnOk, OnErr};
 ghost use Rattle.dim_rag.specs.Journal.{IsWithin, entries_of};
 ghost use Rattle.dim_rag.specs.Shown.{HasStack, shown};
 ghost use Rattle.dim_rag.specs.Yielded.{is_learn, yielded};
@@ -15,6 +15,9 @@ use dim_base::{OutOfMemory, Tid};
 use dim_stack::Frame;
 use std::alloc::Global;
 use std::marker::Model;
+
+/// For at most so many entries more an empty journal asks room.
+const MORE: usize = 4096;
 
 /// The entries of a history, oldest first.
 ///
@@ -159,14 +162,15 @@ impl Journal {
 
 /// For how many further entries a journal of this length asks room, so as to have it for `entries`.
 ///
-/// One that is empty asks for twice as many, since the next `reserve` for as many would else move
-/// all that the first one took.
+/// One that is empty asks for as many more, or for 4,096 more, since the next `reserve` for as many
+/// would else move all that the first one took.
 fn room_for(entries: u32, len: usize) -> usize
     ensures low { entries ≤ result }
-    ensures high { result ≤ 2 * entries }
+    ensures high { result ≤ entries + 4096 }
 {
     let entries = entries as usize;
-    if len == 0 { 2 * entries } else { entries }
+    let more = if len == 0 { entries.min(MORE) } else { 0 };
+    entries + more
 }
 
 /// Appends an entry.
