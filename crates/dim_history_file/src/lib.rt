@@ -20,5 +20,5 @@ pub use history::History;
 pub use laws::{first_fault_law, length_law, reading_law, spelling_law};
 pub use reading::read;
 pub use recent::Recent;
-pub use renaming::rename;
+pub use renaming::{rename, rename_into};
 pub use writing::{put_stack, write};

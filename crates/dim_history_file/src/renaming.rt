@@ -1,6 +1,6 @@
 //! A history in another table of names.
 ghost use Rattle.std.specs.Prelude.{◌≡◌, ◌++◌, ◌∷◌, [], IfOk, None, OnOk, map};
-ghost use Rattle.dim_stack.specs.Names.{HasNames};
+ghost use Rattle.dim_stack.specs.Names.{HasNames, name_number};
 ghost use Rattle.dim_signature.specs.Refusal.{refusal_of};
 ghost use Rattle.dim_history_file.specs.Value.{AreNumbersIn, named, AreNamed};
 ghost use Rattle.dim_history_file.specs.Grammar.{AreNear};
@@ -10,7 +10,7 @@ use crate::History;
 use crate::opening::Opening;
 use crate::signing::signature;
 use arrayvec::ArrayVec;
-use dim_base::OutOfMemory;
+use dim_base::{OutOfMemory, Word};
 use dim_signature::{Add, Catalogue, Signature};
 use dim_stack::{Frame, MOST_FRAMES, Names, Stack};
 use std::alloc::Global;
@@ -33,20 +33,34 @@ struct Renaming<'a> {
     ghost right: { AreNumbersIn to.now from.now numbers.items },
 }
 
-// The number of each name in another table, in which it has to stand.
+// The number of a name, which is found at once where it is the guess.
+fn number_in(names: &Names, name: &Word, guess: u32) -> Option<u32>
+    ensures { result ≡ name_number names.now name.now }
+{
+    if guess < names.len() && names.name(guess) == name {
+        return Some(guess);
+    }
+    names.number(name)
+}
+
+// The number of each name in another table, in which it has to stand. Both tables are in order, so
+// it mostly follows that of the name before.
 fn numbers_in(alloc: Global, from: &Names, to: &Names) -> Result<Vec<u32>, OutOfMemory>
     requires { HasNames to.now from.now }
     ensures { IfOk result (λ ns. AreNumbersIn to.now from.now ns.items) }
 {
     let mut numbers = Vec::with_capacity(alloc, from.len() as usize)?;
+    let mut guess = 0;
     for n in 0..from.len() {
-        numbers.push(to.number(from.name(n)).unwrap())?;
+        let found = number_in(to, from.name(n), guess).unwrap();
+        numbers.push(found)?;
+        guess = found.wrapping_add(1);
     }
     Ok(numbers)
 }
 
 impl<'a> Renaming<'a> {
-    ghost use Rattle.std.specs.Prelude.{◌≡◌, ◌<◌, All, IfOk, length, map};
+    ghost use Rattle.std.specs.Prelude.{◌≡◌, ◌<◌, All, IfOk, OnOk, length, map};
     ghost use Rattle.dim_stack.specs.Names.{IsNamedBy, HasNames};
     ghost use Rattle.dim_history_file.specs.Value.{named_frame, named_stack, named_sig};
 
@@ -85,29 +99,35 @@ impl<'a> Renaming<'a> {
         Stack::new(frames.as_slice())
     }
 
-    fn stacks(&self, alloc: Global, stacks: &[Stack]) -> Result<Vec<Stack>, OutOfMemory>
+    // Puts the same stacks in the place of others.
+    fn stacks(&self, stacks: &[Stack], renamed: &mut Vec<Stack>) -> Result<(), OutOfMemory>
         requires { All (IsNamedBy self.now.from.now) stacks.now }
-        ensures same { IfOk result (λ s. map (named_stack self.now.to.now) s.items
+        ensures same { OnOk result (map (named_stack self.now.to.now) renamed.new.items
             ≡ map (named_stack self.now.from.now) stacks.now) }
-        ensures named { IfOk result (λ s. All (IsNamedBy self.now.to.now) s.items) }
+        ensures named { OnOk result (All (IsNamedBy self.now.to.now) renamed.new.items) }
     {
-        let mut renamed = Vec::with_capacity(alloc, stacks.len())?;
+        renamed.clear();
         for stack in stacks {
             renamed.push(self.stack(stack))?;
         }
-        Ok(renamed)
+        Ok(())
     }
 
-    // The same signature.
-    fn sig(&self, alloc: Global, sig: &Signature) -> Result<Signature, OutOfMemory>
+    // The same signature. Its stacks are made in a vector that may be used again.
+    fn sig(
+        &self,
+        alloc: Global,
+        sig: &Signature,
+        stacks: &mut Vec<Stack>,
+    ) -> Result<Signature, OutOfMemory>
         requires { All (IsNamedBy self.now.from.now) sig.now.stacks }
         ensures same { IfOk result
             (λ s. named_sig self.now.to.now s ≡ named_sig self.now.from.now sig.now) }
         ensures named { IfOk result (λ s. All (IsNamedBy self.now.to.now) s.stacks) }
     {
         let _tables = (self.from.len(), self.to.len());
-        let stacks = self.stacks(alloc, sig.as_slice())?;
-        signature(alloc, Opening::of(sig), &stacks)
+        self.stacks(sig.as_slice(), stacks)?;
+        signature(alloc, Opening::of(sig), stacks)
     }
 }
 
@@ -132,11 +152,25 @@ fn renamed_catalogue(alloc: Global, h: &History, names: &Names) -> Result<Catalo
     let _tables = (h.names.len(), names.len());
     let renaming = Renaming::new(alloc, &h.names, names)?;
     let mut catalogue = Catalogue::new(alloc);
+    let mut stacks = Vec::new(alloc);
     for i in 0..h.catalogue.len() {
-        let sig = renaming.sig(alloc, h.catalogue.get(i))?;
+        let sig = renaming.sig(alloc, h.catalogue.get(i), &mut stacks)?;
         append(&mut catalogue, sig)?;
     }
     Ok(catalogue)
+}
+
+/// What `rename` gives, which takes the table as it is and copies no name.
+pub fn rename_into(alloc: Global, h: History, names: Names) -> Result<History, OutOfMemory>
+    requires { HasNames names h.names }
+    ensures names { IfOk result (λ r. r.names ≡ names) }
+    ensures value { IfOk result (λ r. value_of r ≡ value_of h) }
+    ensures near { AreNear h.catalogue.sigs → IfOk result (λ r. AreNear r.catalogue.sigs) }
+    ensures depths { IfOk result (λ r. map (λ s. s.depth) r.catalogue.sigs
+        ≡ map (λ s. s.depth) h.catalogue.sigs) }
+{
+    let catalogue = renamed_catalogue(alloc, &h, &names)?;
+    Ok(History { names, catalogue })
 }
 
 /// The same history with this table of names, in which each of its names has to stand: depths,
@@ -150,6 +184,5 @@ pub fn rename(alloc: Global, h: History, names: &Names) -> Result<History, OutOf
         ≡ map (λ s. s.depth) h.catalogue.sigs) }
 {
     let names = copied(alloc, names)?;
-    let catalogue = renamed_catalogue(alloc, &h, &names)?;
-    Ok(History { names, catalogue })
+    rename_into(alloc, h, names)
 }

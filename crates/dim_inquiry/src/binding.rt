@@ -11,7 +11,7 @@ ghost use Rattle.dim_inquiry.specs.Inputs.{names_of, program_of, loaded_of};
 use crate::inputs::Inputs;
 use dim_asm::Program;
 use dim_base::OutOfMemory;
-use dim_history_file::{History, rename};
+use dim_history_file::{History, rename_into};
 use dim_stack::{Names, merged_law};
 use std::alloc::Global;
 
@@ -48,7 +48,7 @@ pub fn bound(alloc: Global, inputs: Inputs) -> Result<Inputs, OutOfMemory>
     } = inputs;
     let names = names_of(alloc, &program, &history)?;
     program.bind(&names);
-    let history = rename(alloc, history, &names)?;
+    let history = rename_into(alloc, history, names)?;
     history.law();
     Ok(Inputs { program, history })
 }

@@ -1,18 +1,9 @@
-use Rattle.std.proofs.Common.{List, ℕ, map, ap, sym, ◌∙◌, subst}
+use Rattle.std.proofs.Common.{◌≡◌, List, ℕ, IfOk, sym, subst}
 use Rattle.dim_stack.specs.Names.{HasNames}
-use Rattle.dim_history_file.specs.Value.{NamedSig}
-use Rattle.dim_history_file.proofs.Sound.{depths_named, near_renamed}
 use Rattle.dim_history_file.proofs.renaming.rename.Goals as goal
 
-pub returns-clause-depths : goal.returns-clause-depths
-returns-clause-depths c =
-    sym (depths_named c.in_ok-names.names c.in_ok-catalogue.catalogue.sigs)
-    ∙ ap (map (λ (s : NamedSig). s.depth)) c.in_ok-catalogue.ensures.same
-    ∙ depths_named c.args.h.names c.args.h.catalogue.sigs
+pub rename_into-requires : goal.rename_into-requires
+rename_into-requires c = subst (λ (t : List (List ℕ)). HasNames t c.args.h.names) (sym c.in_ok-names.ensures) c.requires
 
-pub returns-clause-near : goal.returns-clause-near
-returns-clause-near c near =
-    near_renamed c.args.h.names c.in_ok-names.names c.args.h.catalogue.sigs c.in_ok-catalogue.catalogue.sigs c.in_ok-catalogue.ensures.same near
-
-pub renamed_catalogue-requires : goal.renamed_catalogue-requires
-renamed_catalogue-requires c = subst (λ (t : List (List ℕ)). HasNames t c.args.h.names) (sym c.in_ok-names.ensures) c.requires
+pub returns-clause-names : goal.returns-clause-names
+returns-clause-names c = subst (λ t. IfOk c.rename_into.result (λ r. r.names ≡ t)) c.in_ok-names.ensures c.rename_into.ensures.names

@@ -11,7 +11,7 @@ pub signature-requires-clause-sorted : goal.signature-requires-clause-sorted
 signature-requires-clause-sorted c =
     let from = c.args.self.now.from.now in
     let to = c.args.self.now.to.now in
-    let stacks = c.in_ok-stacks.stacks.items in
+    let stacks = c.stacks.new.renamed.items in
     let before = in_order_named from c.len.ensures.table.ascending c.args.sig.now.stacks c.requires c.as_slice.ensures.ordered in
     let same = c.in_ok-stacks.ensures.same ∙ ap (map (named_stack from)) c.as_slice.ensures.stacks in
     subst AreSorted (sym c.deref.ensures.value) (sorted_named to c.len-2.ensures.table.ascending stacks c.in_ok-stacks.ensures.named (subst AreInOrder (sym same) before))
@@ -19,7 +19,7 @@ signature-requires-clause-sorted c =
 pub signature-requires-clause-in_range : goal.signature-requires-clause-in_range
 signature-requires-clause-in_range c =
     let sig = c.as_slice.ensures.signature in
-    let stacks = c.in_ok-stacks.stacks.items in
+    let stacks = c.stacks.new.renamed.items in
     let to = c.args.self.now.to.now in
     let from = c.args.self.now.from.now in
     let size : length c.deref.result.now ≡ length c.args.sig.now.stacks =
