@@ -1,5 +1,5 @@
 //! The stack that a line spells.
-ghost use Rattle.std.specs.Prelude.{◌≡◌, ◌<◌, ◌≤◌, Err, Some, nat_lt, length, map, IfOk, IfSome};
+ghost use Rattle.std.specs.Prelude.{◌≡◌, ◌<◌, ◌≤◌, Err, Some, nat_lt, length, map, IfOk, IfSome, OnOk};
 ghost use Rattle.std.specs.List.{list_all};
 ghost use Rattle.dim_text.specs.Reading.{Gives};
 ghost use Rattle.dim_text.specs.Cuts.{words_of};
@@ -67,26 +67,28 @@ fn found(names: &Names, recent: &mut Recent, name: &[u8]) -> Option<u32>
     Some(number)
 }
 
-// The frames that words spell, of which there may be 32.
-fn frames(
+// Puts the frames that words spell, of which there may be 32, in the place of others.
+fn put_frames(
     names: &Names,
     recent: &mut Recent,
     mut words: Parts,
-) -> Result<ArrayVec<Frame, MOST_FRAMES>, FileKind>
+    frames: &mut ArrayVec<Frame, MOST_FRAMES>,
+) -> Result<(), FileKind>
     requires { HasNames names.now (names_in_words words) }
     ensures value { length words.entry ≤ 32
-        → Gives Some (λ fs. map (named_frame names.now) fs.items) result (frames_of words.entry) }
-    ensures named { IfOk result (λ fs. IsNamedBy names.now fs.items) }
-    ensures len { IfOk result (λ fs. length fs.items ≡ length words.entry) }
+        → Gives Some (λ _. map (named_frame names.now) frames.new.items) result
+        (frames_of words.entry) }
+    ensures named { OnOk result (IsNamedBy names.now frames.new.items) }
+    ensures len { OnOk result (length frames.new.items ≡ length words.entry) }
 {
-    let mut frames = ArrayVec::new();
+    frames.clear();
     while let Some(word) = words.next_part() {
         if frames.is_full() {
             return Err(FileKind::Limit);
         }
         frames.push(frame(names, recent, word)?);
     }
-    Ok(frames)
+    Ok(())
 }
 
 // The kind of fault of a line that spells no stack. It is this one where the fault is that of a
@@ -112,8 +114,9 @@ pub fn stack(names: &Names, recent: &mut Recent, line: &[u8]) -> Result<Stack, F
     ensures value { Gives Some (named_stack names.now) result (stack_of (words_of line.now)) }
     ensures named { IfOk result (IsNamedBy names.now) }
 {
-    match frames(names, recent, Parts::words(line)) {
-        Ok(frames) => Ok(Stack::new(frames.as_slice())),
+    let mut frames = ArrayVec::new();
+    match put_frames(names, recent, Parts::words(line), &mut frames) {
+        Ok(()) => Ok(Stack::new(frames.as_slice())),
         Err(kind) => Err(fault_of_line(line, kind)),
     }
 }

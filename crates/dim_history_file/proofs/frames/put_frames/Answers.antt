@@ -9,7 +9,7 @@ use Rattle.dim_history_file.specs.Value.{NamedFrame, named_frame}
 use Rattle.dim_history_file.specs.Judging.{frame_of, frames_of}
 use Rattle.dim_history_file.specs.Naming.{names_in_word, names_in_words}
 use Rattle.dim_history_file.proofs.Using.{has_right}
-use Rattle.dim_history_file.proofs.frames.frames.Goals as goal
+use Rattle.dim_history_file.proofs.frames.put_frames.Goals as goal
 
 one_more : (front : List NamedFrame) (f : NamedFrame) (r : Result (List NamedFrame) FileKind) → ((r >>= λ gs. Ok (f ∷ gs)) >>= λ gs. Ok (front ++ gs)) ≡ (r >>= λ gs. Ok ((front ++ f ∷ []) ++ gs))
 one_more front f (Ok gs) = ap (λ fs. Ok fs) (sym (append_assoc front (f ∷ []) gs))

@@ -4,7 +4,7 @@ use Rattle.dim_stack.specs.Names.{IsNamedBy, HasNames}
 use Rattle.dim_history_file.specs.Value.{named_frame}
 use Rattle.dim_history_file.specs.Judging.{frames_of}
 use Rattle.dim_history_file.specs.Naming.{names_in_words}
-use Rattle.dim_history_file.proofs.frames.frames.Given as goal
+use Rattle.dim_history_file.proofs.frames.put_frames.Given as goal
 
 abbrev pub invariant-loop-word : goal.invariant-loop-word
 invariant-loop-word l = record {
