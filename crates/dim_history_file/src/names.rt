@@ -6,7 +6,7 @@ ghost use Rattle.dim_history_file.specs.Naming.{names_in_word, names_in_line, na
 use crate::recent::Recent;
 use dim_base::{OutOfMemory, Word};
 use dim_stack::Names;
-use dim_text::{Parts, frame_sides, name};
+use dim_text::{Parts, frame_sides, is_word, name};
 use indexmap::IndexSet;
 use std::alloc::Global;
 
@@ -18,7 +18,7 @@ fn is_at(table: &IndexSet<Word>, name: &[u8], place: u32) -> bool
     ensures { IsTrue result → slice_get table.now.keys place ≡ Some name.now }
 {
     let words = table.as_slice();
-    (place as usize) < words.len() && words[place as usize].as_slice() == name
+    (place as usize) < words.len() && is_word(words[place as usize].as_slice(), name)
 }
 
 // Puts a name in, and notes where it stands.

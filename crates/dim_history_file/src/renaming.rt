@@ -13,6 +13,7 @@ use arrayvec::ArrayVec;
 use dim_base::{OutOfMemory, Word};
 use dim_signature::{Add, Catalogue, Signature};
 use dim_stack::{Frame, MOST_FRAMES, Names, Stack};
+use dim_text::is_word;
 use std::alloc::Global;
 
 // A table with the same names.
@@ -37,7 +38,7 @@ struct Renaming<'a> {
 fn number_in(names: &Names, name: &Word, guess: u32) -> Option<u32>
     ensures { result ≡ name_number names.now name.now }
 {
-    if guess < names.len() && names.name(guess) == name {
+    if guess < names.len() && is_word(names.name(guess).as_slice(), name.as_slice()) {
         return Some(guess);
     }
     names.number(name)

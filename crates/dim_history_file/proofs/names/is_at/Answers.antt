@@ -9,5 +9,5 @@ returns-then-place-words c is =
     let word = c.index-words-place.result in
     let within : c.args.place < length words = omega arith in
     let at : slice_get words c.args.place ≡ Some word = slice_get-get_or words c.args.place word within ∙ ap (λ w. Some w) (sym c.index-words-place.is) in
-    let same : word ≡ c.args.name.now = sym c.as_slice.ensures ∙ (bytes_eq-Decides c.as_slice.result.now c.args.name.now).0 (sym c.eq.ensures ∙ is) in
+    let same : word ≡ c.args.name.now = sym c.as_slice.ensures ∙ (bytes_eq-Decides c.as_slice.result.now c.args.name.now).0 (sym c.is_word.ensures ∙ is) in
     ap (λ ws. slice_get ws c.args.place) (sym c.as_slice-words.ensures.keys) ∙ at ∙ ap (λ w. Some w) same
