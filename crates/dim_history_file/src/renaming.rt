@@ -161,19 +161,6 @@ fn renamed_catalogue(alloc: Global, h: &History, names: &Names) -> Result<Catalo
     Ok(catalogue)
 }
 
-/// What `rename` gives, which takes the table as it is and copies no name.
-pub fn rename_into(alloc: Global, h: History, names: Names) -> Result<History, OutOfMemory>
-    requires { HasNames names h.names }
-    ensures names { IfOk result (λ r. r.names ≡ names) }
-    ensures value { IfOk result (λ r. value_of r ≡ value_of h) }
-    ensures near { AreNear h.catalogue.sigs → IfOk result (λ r. AreNear r.catalogue.sigs) }
-    ensures depths { IfOk result (λ r. map (λ s. s.depth) r.catalogue.sigs
-        ≡ map (λ s. s.depth) h.catalogue.sigs) }
-{
-    let catalogue = renamed_catalogue(alloc, &h, &names)?;
-    Ok(History { names, catalogue })
-}
-
 /// The same history with this table of names, in which each of its names has to stand: depths,
 /// states and yields stay.
 pub fn rename(alloc: Global, h: History, names: &Names) -> Result<History, OutOfMemory>
@@ -186,4 +173,18 @@ pub fn rename(alloc: Global, h: History, names: &Names) -> Result<History, OutOf
 {
     let names = copied(alloc, names)?;
     rename_into(alloc, h, names)
+}
+
+/// What `rename` gives with this table, in which each of the history's names has to stand. The table
+/// is taken as it is, so no name is copied.
+pub fn rename_into(alloc: Global, h: History, names: Names) -> Result<History, OutOfMemory>
+    requires { HasNames names h.names }
+    ensures names { IfOk result (λ r. r.names ≡ names) }
+    ensures value { IfOk result (λ r. value_of r ≡ value_of h) }
+    ensures near { AreNear h.catalogue.sigs → IfOk result (λ r. AreNear r.catalogue.sigs) }
+    ensures depths { IfOk result (λ r. map (λ s. s.depth) r.catalogue.sigs
+        ≡ map (λ s. s.depth) h.catalogue.sigs) }
+{
+    let catalogue = renamed_catalogue(alloc, &h, &names)?;
+    Ok(History { names, catalogue })
 }
