@@ -175,8 +175,8 @@ pub fn rename(alloc: Global, h: History, names: &Names) -> Result<History, OutOf
     rename_into(alloc, h, names)
 }
 
-/// What `rename` gives with this table, in which each of the history's names has to stand. The table
-/// is taken as it is, so no name is copied.
+/// The same history with this table of names, in which each of its names has to stand: depths,
+/// states and yields stay. The table is taken as it is, so that no name is copied.
 pub fn rename_into(alloc: Global, h: History, names: Names) -> Result<History, OutOfMemory>
     requires { HasNames names h.names }
     ensures names { IfOk result (λ r. r.names ≡ names) }
