@@ -63,7 +63,7 @@ pub fn machines_of(alloc: Global, program: &Program, fuel: u32) -> Result<Vec<Ma
     ensures { IfOk result
         (λ machines. machines.items ≡ starts program.now fuel (thread_count program.now)) }
 {
-    let mut machines = Vec::new(alloc);
+    let mut machines = Vec::with_capacity(alloc, program.threads() as usize)?;
     for t in 0..program.threads() {
         machines.push(Machine::new(program, Tid(t), fuel))?;
     }
