@@ -1,10 +1,12 @@
 //! Writing the text of a trace.
-ghost use Rattle.std.specs.Prelude.{◌≡◌, ◌++◌, All, IfOk, OnOk};
+ghost use Rattle.std.specs.Prelude.{◌≡◌, ◌++◌, All, IfOk, OnOk, codes};
+ghost use Rattle.std.specs.Fmt.{decimal};
 ghost use Rattle.std.specs.String.{string_bytes};
 ghost use Rattle.dim_rag.specs.Shown.{shown};
 ghost use Rattle.dim_trace.specs.Grammar.{HasSet};
 ghost use Rattle.dim_trace.specs.Text.{head_lines, text_of, line_of, words_of_entry, trace_text};
 
+use crate::draft::Draft;
 use crate::trace::Trace;
 use crate::words::put_entry;
 use dim_asm::Program;
@@ -12,7 +14,6 @@ use dim_base::{Bytes, OutOfMemory};
 use dim_rag::{EntryRef, Tables};
 use dim_stack::Names;
 use std::alloc::{AllocError, Global};
-use std::fmt::Write;
 
 /// The lines before the entries.
 fn head(alloc: Global, fuel: u32, depth: u8) -> Result<String, AllocError>
@@ -32,18 +33,26 @@ fn set_law(entry: &EntryRef<'_>)
 
 /// Appends the line of an entry.
 fn put_line(
-    text: &mut String,
+    text: &mut Draft,
     program: &Program,
     names: &Names,
     entry: &EntryRef<'_>,
 ) -> Result<(), AllocError>
-    ensures line { OnOk result (string_bytes text.new
-        ≡ string_bytes text.old ++ line_of (words_of_entry program.now names.now (shown entry.now))) }
+    ensures line { OnOk result (text.new
+        ≡ text.old ++ line_of (words_of_entry program.now names.now (shown entry.now))) }
     ensures set { HasSet (shown entry.now) }
 {
     set_law(entry);
     put_entry(text, program, names, entry)?;
-    text.push('\n')
+    text.put_byte(b'\n')
+}
+
+/// Appends the line of the end, which says how many entries there are.
+fn put_tail(alloc: Global, text: &mut Draft, count: usize) -> Result<(), AllocError>
+    ensures { OnOk result (text.new ≡ text.old ++ (codes "end " ++ (decimal count ++ codes "\n"))) }
+{
+    let line = format!(in alloc; "end {count}\n")?;
+    text.put(line.as_str())
 }
 
 /// The lines of the head, of the entries and of the end.
@@ -52,18 +61,18 @@ fn text_of_trace(
     program: &Program,
     names: &Names,
     trace: &Trace,
-) -> Result<String, AllocError>
-    ensures text { IfOk result (λ text. string_bytes text
+) -> Result<Vec<u8>, AllocError>
+    ensures text { IfOk result (λ text. text.items
         ≡ trace_text program.now names.now trace.now.fuel trace.now.depth trace.now.entries.items) }
     ensures sets { OnOk result (All HasSet trace.now.entries.items) }
 {
-    let mut text = head(alloc, trace.fuel, trace.depth)?;
+    let mut text = Draft::of(head(alloc, trace.fuel, trace.depth)?);
     for entry in &trace.entries {
         put_line(&mut text, program, names, &EntryRef::of(entry))?;
     }
     let count = trace.entries.len();
-    writeln!(text, "end {count}")?;
-    Ok(text)
+    put_tail(alloc, &mut text, count)?;
+    text.into_bytes()
 }
 
 /// The text of a trace of the program, where functions have their names in this table. A number
@@ -80,7 +89,7 @@ pub fn write_trace(
     ensures sets { OnOk result (All HasSet trace.now.entries.items) }
 {
     let text = text_of_trace(alloc, program, names, trace)?;
-    Ok(Bytes::from_vec(text.into_bytes()))
+    Ok(Bytes::from_vec(text))
 }
 
 /// The lines of the head, of the entries in tables and of the end.
@@ -91,18 +100,18 @@ fn text_of_tables(
     fuel: u32,
     depth: u8,
     tables: &Tables,
-) -> Result<String, AllocError>
-    ensures text { IfOk result (λ text. string_bytes text
+) -> Result<Vec<u8>, AllocError>
+    ensures text { IfOk result (λ text. text.items
         ≡ trace_text program.now names.now fuel depth tables.now.entries) }
     ensures sets { OnOk result (All HasSet tables.now.entries) }
 {
-    let mut text = head(alloc, fuel, depth)?;
+    let mut text = Draft::of(head(alloc, fuel, depth)?);
     let count = tables.len();
     for place in 0..count {
         put_line(&mut text, program, names, &tables.look(place))?;
     }
-    writeln!(text, "end {count}")?;
-    Ok(text)
+    put_tail(alloc, &mut text, count as usize)?;
+    text.into_bytes()
 }
 
 /// The text of the trace with this fuel and this depth whose entries are those of tables: what
@@ -121,5 +130,5 @@ pub fn write_tables(
     ensures sets { OnOk result (All HasSet tables.now.entries) }
 {
     let text = text_of_tables(alloc, program, names, fuel, depth, tables)?;
-    Ok(Bytes::from_vec(text.into_bytes()))
+    Ok(Bytes::from_vec(text))
 }

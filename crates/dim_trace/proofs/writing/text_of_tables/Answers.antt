@@ -1,6 +1,7 @@
-use Rattle.std.proofs.Common.{sym, subst, arith}
+use Rattle.std.proofs.Common.{sym, subst, arith, ◌∙◌}
 use Rattle.std.proofs.lemmas.List.Elements.{All-more}
 use Rattle.std.proofs.lemmas.Option.{slice_get_within, get_or_from_slice_get}
+use Rattle.std.proofs.lemmas.Result.{IfOk-weaker}
 use Rattle.dim_rag.specs.Shown.{shown}
 use Rattle.dim_trace.specs.Grammar.{HasSet}
 use Rattle.dim_trace.specs.Text.{head_lines, text_of}
@@ -20,8 +21,9 @@ loop-place-preserved c =
 
 pub returns-clause-text : goal.returns-clause-text
 returns-clause-text c =
-    ended_text c.args.program.now c.args.names.now c.args.fuel c.args.depth c.args.tables.now.entries c.loop-place.place c.len-count.result _ _
+    let whole = ended_text c.args.program.now c.args.names.now c.args.fuel c.args.depth c.args.tables.now.entries c.loop-place.place c.len-count.result _ _
     (omega (arith, c.loop-place-test.false, c.len-count.ensures.len))
     c.len-count.ensures.len
     c.loop-place.invariant.text
-    c.in_ok-writeln.ensures.bytes
+    c.in_ok-put_tail.ensures in
+    IfOk-weaker c.into_bytes.result _ _ (λ bytes is. is ∙ whole) c.into_bytes.ensures
