@@ -32,6 +32,21 @@ pub trait Door {
         ensures still_woken { result ≡ reply.Ended → woken self.old → woken self.new }
         ensures reaches { reaches self.old self.new };
 
+    /// Asks the gate by a command that stays the caller's, as `ask` does, so that a large one is
+    /// copied less.
+    fn ask_on(&mut self, cmd: &Command) -> Reply
+        requires room { 1 ≤ (seen self.old).left }
+        requires may { MayAsk (seen self.old) cmd.now }
+        ensures reply { IsReplyTo (seen self.old) cmd.now result }
+        ensures seen { seen self.new ≡ told (seen self.old) cmd.now result }
+        ensures stopped { IsStop result → stopped self.new }
+        ensures woken { result ≡ reply.Woken → woken self.new }
+        ensures still_woken { result ≡ reply.Ended → woken self.old → woken self.new }
+        ensures reaches { reaches self.old self.new }
+    {
+        self.ask(*cmd)
+    }
+
     /// No ask leads nowhere else.
     ghost reaches_itself: { (d : Self) → reaches d d };
 

@@ -49,7 +49,7 @@ impl Machine {
         ensures woken { result ≡ reply.Woken → D.woken door.new }
         ensures reaches { D.reaches door.old door.new }
     {
-        let reply = door.ask(Command::Acquire { l });
+        let reply = door.ask_on(&Command::Acquire { l });
         if let Reply::Got = &reply {
             self.pass(l, 1, drops);
         }
@@ -87,7 +87,7 @@ impl Machine {
         ensures seen { D.seen door.new ≡ told (D.seen door.old) (Command.Release l) reply.Freed }
         ensures reaches { D.reaches door.old door.new }
     {
-        let _freed = door.ask(Command::Release { l });
+        let _freed = door.ask_on(&Command::Release { l });
         let times = self.holds[l.0 as usize].saturating_sub(1);
         self.pass(l, times, drops);
     }
@@ -129,7 +129,7 @@ impl Machine {
         ensures woken { D.woken door.old → D.woken door.new }
         ensures reaches { D.reaches door.old door.new }
     {
-        let _ended = door.ask(Command::End { why });
+        let _ended = door.ask_on(&Command::End { why });
         self.state = State::Ended { why };
     }
 
