@@ -27,7 +27,7 @@ use Rattle.dim_tune.specs.Laws.{AllGrownLaw}
 use Rattle.dim_tune.specs.Runs.{IsKeptRun}
 use Rattle.dim_inquiry.specs.declared.report.Report.{Report}
 use Rattle.dim_commands.specs.Immunize.{last_of, sigs_at, entries_at, history_at, behind_attempts, attempts_report, report_at, left_at, attempts_left, AreLawful}
-use Rattle.dim_commands.specs.Lawful.{ReadsBack}
+use Rattle.dim_commands.specs.Lawful.{IsTraceable, ReadsBack}
 use Rattle.dim_inquiry.specs.Inputs.{Inputs, names_of, program_of, loaded_of}
 use Rattle.dim_commands.specs.Output.{Left, trace_by}
 use Rattle.dim_commands.specs.Report.{ran}
@@ -46,7 +46,7 @@ pub record AreTried (x : Inputs) (s : Settings) (k : ℕ) (made : KeptImmunized)
   pub sigs_are : made.history.catalogue.sigs ≡ sigs_after p s loaded (length made.lines.items)
   pub read : named (names_of x) (loaded_of x) ≡ x.sigs
   pub again : history_of (history_text (value_of made.history)) ≡ Ok (value_of made.history)
-  pub trace_again : (l : List Sig) → IsKeptRun p l s made.run → ReadsBack p made.history.names s made.run.tables.entries
+  pub trace_again : (l : List Sig) → IsTraceable p l s made.run.tables.entries → ReadsBack p made.history.names s made.run.tables.entries
 
 -- what is written of them
 pub record AreWritten (s : Settings) (made : KeptImmunized) (p : Code) (left : Left) : Type 0 where
@@ -97,6 +97,9 @@ module _ (x : Inputs) (s : Settings) (k : ℕ) (made : KeptImmunized) where
     known_are : made.run.catalogue.sigs ≡ known
     known_are = run.known_are ∙ ap (grown (sigs_at x s last) s.depth) run.entries_are ∙ sym (next_is x s last)
 
+    traceable : IsTraceable p (sigs_at x s last) s made.run.tables.entries
+    traceable = record { loaded = run.loaded; few_loaded = run.few_loaded; executes = run.executes; few = run.few }
+
     value : value_of made.history ≡ history_at x s (suc last)
     value = ap (λ n. named n made.history.catalogue.sigs) is.names_are ∙ ap (named (names_of x)) (is.sigs_are ∙ ap (sigs_at x s) count)
 
@@ -132,7 +135,7 @@ module _ (x : Inputs) (s : Settings) (k : ℕ) (made : KeptImmunized) where
             subst (λ (sigs : List NamedSig). history_of (history_text sigs) ≡ Ok sigs) (value ∙ ap (named (names_of x)) (next_is x s last)) is.again;
         trace_reads_back =
             subst (λ es. ReadsBack p (names_of x) s es) run.entries_are
-            (subst (λ n. ReadsBack p n s made.run.tables.entries) is.names_are (is.trace_again (sigs_at x s last) run));
+            (subst (λ n. ReadsBack p n s made.run.tables.entries) is.names_are (is.trace_again (sigs_at x s last) traceable));
       };
       grown = λ i sig at. law p s (loaded_of x) (suc last) i sig at (in_range_at (loaded_of x) i sig is.in_range at).yields;
     }

@@ -7,6 +7,7 @@ use Rattle.dim_history_file.specs.Value.{named}
 use Rattle.dim_rag.specs.declared.entry.Entry.{Entry}
 use Rattle.dim_rag.specs.History.{past}
 use Rattle.dim_signature.specs.Sig.{Sig}
+use Rattle.dim_signature.specs.Catalogue.{IsCatalogue}
 use Rattle.dim_gate.specs.Immune.{IsImmune}
 use Rattle.dim_schedule.specs.declared.settings.Settings.{Settings}
 use Rattle.dim_run.specs.Complete.{IsComplete}
@@ -22,6 +23,13 @@ use Rattle.dim_commands.specs.Output.{grown_from}
 -- a run's trace
 abbrev pub trace_value : Settings → List Entry → TraceValue
 trace_value s entries = record { fuel = s.fuel; depth = s.depth; entries = entries }
+
+-- a run may load these signatures, and the entries execute the program on them and fit into a trace
+pub record IsTraceable (p : Code) (sigs : List Sig) (s : Settings) (entries : List Entry) : Type 0 where
+  pub loaded : IsCatalogue sigs
+  pub few_loaded : length sigs ≤ 4080
+  pub executes : Executes (gate_of p sigs s.depth) p s.fuel entries
+  pub few : length entries ≤ 1048576
 
 -- its text is no longer than a fetch takes, and reads back
 pub record ReadsBack (p : Code) (names : List (List ℕ)) (s : Settings) (entries : List Entry) : Type 0 where

@@ -54,8 +54,8 @@ fn report_of(alloc: Global, inputs: Inputs, s: &Settings) -> Result<Report, OutO
     ensures { IfOk result (λ report. report ≡ run_report (inputs_of inputs) s.now) }
 {
     let both = bound(alloc, inputs)?;
-    let whole = played(alloc, &both, s)?;
-    ran(alloc, &both.program, &whole)
+    let made = played(alloc, both, s)?;
+    ran(alloc, &made.program, &made.run)
 }
 
 // The report on a generated program. However its run ended, the command is done.

@@ -8,8 +8,9 @@ ghost use Rattle.dim_commands.specs.Immunize.{last_of, attempts_left, immunize_c
 ghost use Rattle.dim_inquiry.specs.Inputs.{inputs_of, IsRead};
 ghost use Rattle.dim_commands.specs.Output.{left_of};
 
-use crate::attempts::{attempted, texts_after};
+use crate::attempts::attempted;
 use crate::storing::{Output, store_left};
+use crate::texts::texts_of;
 use dim_base::{Files, OutOfMemory};
 use dim_inquiry::binding::bound;
 use dim_inquiry::fetching::fetch_inputs;
@@ -39,7 +40,7 @@ fn build(alloc: Global, inputs: Inputs, s: &Settings, attempts: u32) -> Result<O
     history.law();
     let made = immunize_kept(alloc, &program, history, s, attempts)?;
     let report = attempted(alloc, &program, &made)?;
-    let texts = texts_after(alloc, &program, &made, s)?;
+    let texts = texts_of(alloc, &program, &made.history, &made.run.tables, s)?;
     Ok(Output { texts, report })
 }
 

@@ -13,4 +13,5 @@ mod ran;
 pub mod run;
 mod storing;
 mod telling;
+mod texts;
 mod totals;

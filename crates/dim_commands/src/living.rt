@@ -7,9 +7,9 @@ ghost use Rattle.dim_inquiry.specs.Inputs.{inputs_of, IsRead};
 ghost use Rattle.dim_inquiry.specs.Course.{StopCause, HasWords};
 ghost use Rattle.dim_commands.specs.Live.{IsLived, Lives};
 
-use crate::playing::{lived, texts_of};
-use crate::ran::ran;
+use crate::playing::lived;
 use crate::storing::{Output, store_left};
+use crate::texts::output_of;
 use dim_base::{Files, OutOfMemory};
 use dim_inquiry::binding::bound;
 use dim_inquiry::fetching::fetch_inputs;
@@ -38,10 +38,9 @@ fn build_live<H: House, R: Threads + Wait + Sync>(
         output.report (H.count house.old) (H.count house.new)) }
 {
     let both = bound(alloc, inputs)?;
-    let whole = lived(rt, alloc, house, &both, s)?;
-    let report = ran(alloc, &both.program, &whole)?;
-    let texts = texts_of(alloc, both, whole, s)?;
-    Ok(Output { texts, report })
+    let made = lived(rt, alloc, house, both, s)?;
+    let output = output_of(alloc, made, s)?;
+    Ok(output)
 }
 
 /// What `run` does, but with the slices of a round beside each other. It may wait.

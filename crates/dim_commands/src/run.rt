@@ -9,9 +9,9 @@ ghost use Rattle.dim_inquiry.specs.Course.{WhereTold, StopCause, Runs, HasWords}
 ghost use Rattle.dim_commands.specs.Run.{run_course, Stored};
 ghost use Rattle.dim_commands.specs.Lawful.{IsLawful};
 
-use crate::playing::{played, texts_of};
-use crate::ran::ran;
+use crate::playing::played;
 use crate::storing::{Output, store_left};
+use crate::texts::output_of;
 use dim_base::{Files, OutOfMemory};
 use dim_inquiry::binding::bound;
 use dim_inquiry::fetching::fetch_inputs;
@@ -34,10 +34,9 @@ fn build(alloc: Global, inputs: Inputs, s: &Settings) -> Result<Output, OutOfMem
         (IsLawful (inputs_of inputs) s.now (entries_of (inputs_of inputs) s.now)) }
 {
     let both = bound(alloc, inputs)?;
-    let whole = played(alloc, &both, s)?;
-    let report = ran(alloc, &both.program, &whole)?;
-    let texts = texts_of(alloc, both, whole, s)?;
-    Ok(Output { texts, report })
+    let made = played(alloc, both, s)?;
+    let output = output_of(alloc, made, s)?;
+    Ok(output)
 }
 
 /// Fetches and reads the program and the history, plays, builds all that is written, and then

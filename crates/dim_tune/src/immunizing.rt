@@ -32,9 +32,9 @@ const ROOM: usize = 16 * 1024 * 1024;
 /// history, which has at most 4,080 signatures and no offset above 65,535. The history answered has
 /// the same names. The rules stand in docs/rules.md, under "Repeated attempts".
 ///
-/// The names and the program stay where they are, and the signatures go from each run to the next;
-/// they are copied once, at the end, so that both the run and the history have them. Of the runs
-/// only the last one is kept.
+/// The names and the program stay where they are. Each run takes a copy of the signatures, and
+/// those that it leaves go on to the next; they are copied once more at the end, so that both the
+/// run and the history have them. Of the runs only the last one is kept.
 pub fn immunize_kept(
     alloc: Global,
     program: &Program,

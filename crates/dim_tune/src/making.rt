@@ -113,7 +113,8 @@ fn ran(
     complete_law();
     program.law();
     history.law();
-    let run = play_kept(alloc, program, history, s)?;
+    let loaded = history.catalogue.copy(alloc)?;
+    let run = play_kept(alloc, program, loaded, s)?;
     Ok(run)
 }
 

@@ -1,4 +1,4 @@
-use Rattle.std.proofs.Common.{subst, IfOk, ◌≡◌}
+use Rattle.std.proofs.Common.{subst, IfOk, ◌≡◌, ◌∙◌}
 use Rattle.dim_inquiry.specs.declared.report.Report.{Report}
 use Rattle.dim_inquiry.specs.Inputs.{inputs_of}
 use Rattle.dim_commands.proofs.BuildLemmas.{IsPlayed, is_played, report_is}
@@ -7,10 +7,12 @@ use Rattle.dim_commands.proofs.generate.report_of.Goals as goal
 pub returns : goal.returns
 returns c =
     let x = inputs_of c.args.inputs in
-    let b = c.in_ok-both.both in
-    let run = c.in_ok-whole.whole in
-    let is : IsPlayed x c.args.s.now b.history.names b.program b.history.catalogue.sigs run.tables.entries =
-    is_played x c.args.s.now b.history.names b.program b.history.catalogue.sigs run.tables.entries c.in_ok-both.ensures.names c.in_ok-both.ensures.program c.in_ok-both.ensures.loaded c.in_ok-whole.ensures.entries in
+    let loaded = c.in_ok-both.both.history.catalogue.sigs in
+    let made = c.in_ok-made.made in
+    let run = made.run in
+    let whole = c.in_ok-made.ensures.whole in
+    let is : IsPlayed x c.args.s.now made.names made.program loaded run.tables.entries =
+    is_played x c.args.s.now made.names made.program loaded run.tables.entries (c.in_ok-made.ensures.names ∙ c.in_ok-both.ensures.names) (c.in_ok-made.ensures.program ∙ c.in_ok-both.ensures.program) c.in_ok-both.ensures.loaded c.in_ok-made.ensures.entries in
     subst (λ (z : Report). IfOk c.ran.result (λ (r : Report). r ≡ z))
-    (report_is x c.args.s.now b.history.names b.program b.history.catalogue.sigs run.catalogue.sigs run.tables.entries run.outcome run.ends.items is c.in_ok-whole.ensures.whole.catalogue c.in_ok-whole.ensures.whole.outcome c.in_ok-whole.ensures.whole.ends)
+    (report_is x c.args.s.now made.names made.program loaded run.catalogue.sigs run.tables.entries run.outcome run.ends.items is whole.catalogue whole.outcome whole.ends)
     c.ran.ensures
