@@ -1,5 +1,5 @@
 -- A signature in another table has stacks that none before it has.
-use Rattle.std.proofs.Common.{◌≡◌, ◌<◌, ◌≤◌, ℕ, inl, inr, Bool, false, ltb, List, length, take, Option, Some, None, All, refl, sym, ap, ap₂, ◌∙◌, subst, arith}
+use Rattle.std.proofs.Common.{◌≡◌, ◌<◌, ◌≤◌, ◌∷◌, ◌++◌, [], ℕ, inl, inr, Bool, false, ltb, List, length, take, Option, Some, None, All, refl, sym, ap, ap₂, ◌∙◌, subst, arith}
 use Rattle.std.specs.Prelude.{position, slice_get}
 use Rattle.std.specs.List.{list_any, position_or_len}
 use Rattle.std.proofs.lemmas.Bool.{cases_Bool, false≢true, cond-true, cond-false, lt-ltb}
@@ -8,6 +8,7 @@ use Rattle.std.proofs.lemmas.List.Elements.{All-take}
 use Rattle.std.proofs.lemmas.List.Folds.{list_any_none}
 use Rattle.std.proofs.lemmas.List.Sums.{fails_before_first}
 use Rattle.std.proofs.lemmas.Option.{get_or_from_slice_get, slice_get_within}
+use Rattle.std.proofs.Math.Seq.{take-append_seam}
 use Rattle.dim_stack.specs.declared.Frame.{Frame}
 use Rattle.dim_stack.specs.Names.{AreAscending, IsNamedBy}
 use Rattle.dim_signature.specs.Sig.{Sig}
@@ -42,7 +43,7 @@ nowhere sigs stacks e = go (signature_number sigs stacks) refl
 none_refused : (sigs : List Sig) (stacks : List (List Frame)) → signature_number sigs stacks ≡ None → length sigs < 4096 → refusal_of sigs stacks ≡ None
 none_refused sigs stacks e few = rw (e, lt-ltb (length sigs) 4096 few) refl
 
-pub is_new : (from to : List (List ℕ)) → AreAscending from → AreAscending to → (sigs so_far : List Sig) (s t : Sig) (i : ℕ)
+is_new : (from to : List (List ℕ)) → AreAscending from → AreAscending to → (sigs so_far : List Sig) (s t : Sig) (i : ℕ)
     → IsCatalogue sigs → AreNamed from sigs → slice_get sigs i ≡ Some s
     → AreNamed to so_far → named to so_far ≡ named from (take i sigs) → All (IsNamedBy to) t.stacks → named_sig to t ≡ named_sig from s
     → refusal_of so_far t.stacks ≡ None
@@ -58,3 +59,23 @@ is_new from to up up2 sigs so_far s t i catalogue known at known2 same one2 alik
     let size : length so_far ≡ i =
     sym (length-map so_far (named_sig to)) ∙ ap length same ∙ length-map (take i sigs) (named_sig from) ∙ length-take-le i sigs (omega (arith, within)) in
     none_refused so_far t.stacks (nowhere so_far t.stacks none) (omega (arith, size, within, catalogue.few))
+
+at_seam : {X : Type 0} (xs ys : List X) (y : X) → slice_get (xs ++ y ∷ ys) (length xs) ≡ Some y
+at_seam [] ys y = refl
+at_seam (x ∷ xs) ys y = at_seam xs ys y
+
+-- what is known of the first of those that are left
+standing : (sigs done left : List Sig) (s : Sig) → done ++ s ∷ left ≡ sigs → slice_get sigs (length done) ≡ Some s
+standing sigs done left s parts = subst (λ (l : List Sig). slice_get l (length done) ≡ Some s) parts (at_seam done left s)
+
+pub next_named : (names : List (List ℕ)) (sigs done left : List Sig) (s : Sig) → done ++ s ∷ left ≡ sigs → AreNamed names sigs → All (IsNamedBy names) s.stacks
+next_named names sigs done left s parts known = let at = standing sigs done left s parts in
+    subst (λ (x : Sig). All (IsNamedBy names) x.stacks) (get_or_from_slice_get sigs (length done) s no_sig at) (known (length done) no_sig (slice_get_within sigs (length done) s at))
+
+pub is_next : (from to : List (List ℕ)) → AreAscending from → AreAscending to → (sigs done left so_far : List Sig) (s t : Sig) → done ++ s ∷ left ≡ sigs
+    → IsCatalogue sigs → AreNamed from sigs
+    → AreNamed to so_far → named to so_far ≡ named from done → All (IsNamedBy to) t.stacks → named_sig to t ≡ named_sig from s
+    → refusal_of so_far t.stacks ≡ None
+is_next from to up up2 sigs done left so_far s t parts catalogue known known2 same one2 alike =
+    is_new from to up up2 sigs so_far s t (length done) catalogue known (standing sigs done left s parts) known2
+    (same ∙ ap (named from) (sym (take-append_seam done (s ∷ left)) ∙ ap (take (length done)) parts)) one2 alike

@@ -1,6 +1,7 @@
 //! A history in another table of names.
 ghost use Rattle.std.specs.Prelude.{◌≡◌, ◌++◌, ◌∷◌, [], IfOk, None, OnOk, map};
 ghost use Rattle.dim_stack.specs.Names.{HasNames, name_number};
+ghost use Rattle.dim_signature.specs.Catalogue.{IsCatalogue};
 ghost use Rattle.dim_signature.specs.Refusal.{refusal_of};
 ghost use Rattle.dim_history_file.specs.Value.{AreNumbersIn, named, AreNamed};
 ghost use Rattle.dim_history_file.specs.Grammar.{AreNear};
@@ -114,21 +115,24 @@ impl<'a> Renaming<'a> {
         Ok(())
     }
 
-    // The same signature. Its stacks are made in a vector that may be used again.
+    // The same signature. Its stacks are made in a vector that may be used again, and its memory is
+    // given back before any is asked for.
     fn sig(
         &self,
         alloc: Global,
-        sig: &Signature,
+        sig: Signature,
         stacks: &mut Vec<Stack>,
     ) -> Result<Signature, OutOfMemory>
-        requires { All (IsNamedBy self.now.from.now) sig.now.stacks }
+        requires { All (IsNamedBy self.now.from.now) sig.stacks }
         ensures same { IfOk result
-            (λ s. named_sig self.now.to.now s ≡ named_sig self.now.from.now sig.now) }
+            (λ s. named_sig self.now.to.now s ≡ named_sig self.now.from.now sig) }
         ensures named { IfOk result (λ s. All (IsNamedBy self.now.to.now) s.stacks) }
     {
         let _tables = (self.from.len(), self.to.len());
         self.stacks(sig.as_slice(), stacks)?;
-        signature(alloc, Opening::of(sig), stacks)
+        let opening = Opening::of(&sig);
+        drop(sig);
+        signature(alloc, opening, stacks)
     }
 }
 
@@ -145,17 +149,24 @@ fn append(catalogue: &mut Catalogue, sig: Signature) -> Result<(), OutOfMemory>
 }
 
 // The same signatures in another table. They differ there as they did, so each is appended.
-fn renamed_catalogue(alloc: Global, h: &History, names: &Names) -> Result<Catalogue, OutOfMemory>
-    requires { HasNames names.now h.now.names }
-    ensures same { IfOk result (λ c. named names.now c.sigs ≡ value_of h.now) }
-    ensures named { IfOk result (λ c. AreNamed names.now c.sigs) }
+fn renamed_catalogue(
+    alloc: Global,
+    sigs: Vec<Signature>,
+    from: &Names,
+    to: &Names,
+) -> Result<Catalogue, OutOfMemory>
+    requires names { HasNames to.now from.now }
+    requires catalogue { IsCatalogue sigs.items }
+    requires named { AreNamed from.now sigs.items }
+    ensures same { IfOk result (λ c. named to.now c.sigs ≡ named from.now sigs.items) }
+    ensures named { IfOk result (λ c. AreNamed to.now c.sigs) }
 {
-    let _tables = (h.names.len(), names.len());
-    let renaming = Renaming::new(alloc, &h.names, names)?;
+    let _tables = (from.len(), to.len());
+    let renaming = Renaming::new(alloc, from, to)?;
     let mut catalogue = Catalogue::new(alloc);
     let mut stacks = Vec::new(alloc);
-    for i in 0..h.catalogue.len() {
-        let sig = renaming.sig(alloc, h.catalogue.get(i), &mut stacks)?;
+    for sig in sigs {
+        let sig = renaming.sig(alloc, sig, &mut stacks)?;
         append(&mut catalogue, sig)?;
     }
     Ok(catalogue)
@@ -185,6 +196,7 @@ pub fn rename_into(alloc: Global, h: History, names: Names) -> Result<History, O
     ensures depths { IfOk result (λ r. map (λ s. s.depth) r.catalogue.sigs
         ≡ map (λ s. s.depth) h.catalogue.sigs) }
 {
-    let catalogue = renamed_catalogue(alloc, &h, &names)?;
+    let sigs = h.catalogue.into_list();
+    let catalogue = renamed_catalogue(alloc, sigs, &h.names, &names)?;
     Ok(History { names, catalogue })
 }

@@ -173,6 +173,14 @@ impl Catalogue {
         self.list[i as usize].count(more);
     }
 
+    /// The signatures by their numbers. The room for others goes.
+    pub fn into_list(self) -> Vec<Signature>
+        ensures list { result.items ≡ self.sigs }
+        ensures catalogue { IsCatalogue self.sigs }
+    {
+        self.list
+    }
+
     /// A catalogue with the same signatures in the same order, equal in all that they hold, and no
     /// room.
     pub fn copy(&self, alloc: Global) -> Result<Catalogue, OutOfMemory>

@@ -44,6 +44,13 @@ impl Draft {
         }
     }
 
+    /// Makes room for so many bytes more, so that what is there isn't moved while they are put.
+    pub fn reserve(&mut self, bytes: usize) -> Result<(), AllocError>
+        ensures { self.new ≡ self.old }
+    {
+        self.done.reserve(bytes)
+    }
+
     /// Appends a byte.
     #[inline(always)]
     pub fn put_byte(&mut self, byte: u8) -> Result<(), AllocError>

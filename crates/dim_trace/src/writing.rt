@@ -15,11 +15,24 @@ use dim_rag::{EntryRef, Tables};
 use dim_stack::Names;
 use std::alloc::{AllocError, Global};
 
+/// About how many bytes the line of an entry has.
+const LINE: usize = 16;
+
 /// The lines before the entries.
 fn head(alloc: Global, fuel: u32, depth: u8) -> Result<String, AllocError>
     ensures { IfOk result (λ text. string_bytes text ≡ text_of (head_lines fuel depth)) }
 {
     format!(in alloc; "dim trace 1\nsettings {fuel} {depth}\n")
+}
+
+/// The text that begins with the lines before the entries, with room for about so many entries'
+/// lines.
+fn begin(alloc: Global, fuel: u32, depth: u8, entries: usize) -> Result<Draft, AllocError>
+    ensures { IfOk result (λ text. text ≡ text_of (head_lines fuel depth)) }
+{
+    let mut text = Draft::of(head(alloc, fuel, depth)?);
+    text.reserve(entries.saturating_mul(LINE))?;
+    Ok(text)
 }
 
 /// The set of a Break is a number of 32 bits.
@@ -66,11 +79,11 @@ fn text_of_trace(
         ≡ trace_text program.now names.now trace.now.fuel trace.now.depth trace.now.entries.items) }
     ensures sets { OnOk result (All HasSet trace.now.entries.items) }
 {
-    let mut text = Draft::of(head(alloc, trace.fuel, trace.depth)?);
+    let count = trace.entries.len();
+    let mut text = begin(alloc, trace.fuel, trace.depth, count)?;
     for entry in &trace.entries {
         put_line(&mut text, program, names, &EntryRef::of(entry))?;
     }
-    let count = trace.entries.len();
     put_tail(alloc, &mut text, count)?;
     text.into_bytes()
 }
@@ -105,8 +118,8 @@ fn text_of_tables(
         ≡ trace_text program.now names.now fuel depth tables.now.entries) }
     ensures sets { OnOk result (All HasSet tables.now.entries) }
 {
-    let mut text = Draft::of(head(alloc, fuel, depth)?);
     let count = tables.len();
+    let mut text = begin(alloc, fuel, depth, count as usize)?;
     for place in 0..count {
         put_line(&mut text, program, names, &tables.look(place))?;
     }

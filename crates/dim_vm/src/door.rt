@@ -1,7 +1,7 @@
 //! The gate as one machine sees it.
 ghost use Rattle.std.specs.Prelude.{◌≡◌, ◌≤◌};
 ghost use Rattle.dim_vm.specs.Door.{Seen, MayAsk, IsReplyTo, told, IsStop, stops_after};
-ghost use Rattle.dim_rag.specs.declared.command.Reply.TheVariants as reply;
+ghost use Rattle.dim_rag.specs.declared.command.Reply.TheVariants.{Woken, Ended};
 
 use dim_rag::{Command, Reply};
 
@@ -28,23 +28,23 @@ pub trait Door {
         ensures reply { IsReplyTo (seen self.old) cmd result }
         ensures seen { seen self.new ≡ told (seen self.old) cmd result }
         ensures stopped { IsStop result → stopped self.new }
-        ensures woken { result ≡ reply.Woken → woken self.new }
-        ensures still_woken { result ≡ reply.Ended → woken self.old → woken self.new }
+        ensures woken { result ≡ Woken → woken self.new }
+        ensures still_woken { result ≡ Ended → woken self.old → woken self.new }
         ensures reaches { reaches self.old self.new };
 
-    /// Asks the gate by a command that stays the caller's, as `ask` does, so that a large one is
-    /// copied less.
-    fn ask_on(&mut self, cmd: &Command) -> Reply
+    /// Asks the gate by a command that stays the caller's, as `ask` does, and writes the reply into
+    /// a place of the caller's, so that both, which are large, are copied less.
+    fn ask_into(&mut self, cmd: &Command, reply: &mut Reply)
         requires room { 1 ≤ (seen self.old).left }
         requires may { MayAsk (seen self.old) cmd.now }
-        ensures reply { IsReplyTo (seen self.old) cmd.now result }
-        ensures seen { seen self.new ≡ told (seen self.old) cmd.now result }
-        ensures stopped { IsStop result → stopped self.new }
-        ensures woken { result ≡ reply.Woken → woken self.new }
-        ensures still_woken { result ≡ reply.Ended → woken self.old → woken self.new }
+        ensures reply { IsReplyTo (seen self.old) cmd.now reply.new }
+        ensures seen { seen self.new ≡ told (seen self.old) cmd.now reply.new }
+        ensures stopped { IsStop reply.new → stopped self.new }
+        ensures woken { reply.new ≡ Woken → woken self.new }
+        ensures still_woken { reply.new ≡ Ended → woken self.old → woken self.new }
         ensures reaches { reaches self.old self.new }
     {
-        self.ask(*cmd)
+        *reply = self.ask(*cmd);
     }
 
     /// No ask leads nowhere else.

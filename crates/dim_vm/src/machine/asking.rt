@@ -49,7 +49,8 @@ impl Machine {
         ensures woken { result ≡ reply.Woken → D.woken door.new }
         ensures reaches { D.reaches door.old door.new }
     {
-        let reply = door.ask_on(&Command::Acquire { l });
+        let mut reply = Reply::Ended;
+        door.ask_into(&Command::Acquire { l }, &mut reply);
         if let Reply::Got = &reply {
             self.pass(l, 1, drops);
         }
@@ -87,7 +88,8 @@ impl Machine {
         ensures seen { D.seen door.new ≡ told (D.seen door.old) (Command.Release l) reply.Freed }
         ensures reaches { D.reaches door.old door.new }
     {
-        let _freed = door.ask_on(&Command::Release { l });
+        let mut freed = Reply::Ended;
+        door.ask_into(&Command::Release { l }, &mut freed);
         let times = self.holds[l.0 as usize].saturating_sub(1);
         self.pass(l, times, drops);
     }
@@ -129,7 +131,8 @@ impl Machine {
         ensures woken { D.woken door.old → D.woken door.new }
         ensures reaches { D.reaches door.old door.new }
     {
-        let _ended = door.ask_on(&Command::End { why });
+        let mut ended = Reply::Ended;
+        door.ask_into(&Command::End { why }, &mut ended);
         self.state = State::Ended { why };
     }
 
