@@ -1,13 +1,10 @@
 //! The run of a program.
-ghost use Rattle.std.specs.Prelude.{◌≡◌, ◌≤◌, length, IfOk};
-ghost use Rattle.dim_asm.specs.Bound.{IsBound};
+ghost use Rattle.std.specs.Prelude.{◌≡◌, IfOk};
 ghost use Rattle.dim_rag.specs.History.{past};
-ghost use Rattle.dim_history_file.specs.Grammar.{AreNear};
 ghost use Rattle.dim_run.specs.Gates.{risen};
 ghost use Rattle.dim_run.specs.Living.{by_threads};
 ghost use Rattle.dim_run.specs.Run.{played};
-ghost use Rattle.dim_schedule.specs.Settings.{AreSettings};
-ghost use Rattle.dim_commands.specs.Whole.{IsWhole};
+ghost use Rattle.dim_commands.specs.Whole.{IsMadeOf, MayRun};
 
 use dim_asm::Program;
 use dim_base::OutOfMemory;
@@ -32,16 +29,10 @@ pub struct Made {
 /// The run of a program with the history that it loads, in one table of names. The signatures of
 /// the history move into the run.
 pub fn played(alloc: Global, both: Inputs, s: &Settings) -> Result<Made, OutOfMemory>
-    requires settings { AreSettings s.now }
-    requires few { length both.history.catalogue.sigs ≤ 4080 }
-    requires bound { IsBound both.history.names both.program }
-    requires near { AreNear both.history.catalogue.sigs }
-    ensures program { IfOk result (λ made. made.program ≡ both.program) }
-    ensures names { IfOk result (λ made. made.names ≡ both.history.names) }
+    requires { MayRun both s.now }
+    ensures made { IfOk result (IsMadeOf both s.now) }
     ensures entries { IfOk result
         (λ made. made.run.tables.entries ≡ played made.program both.history.catalogue.sigs s.now) }
-    ensures whole { IfOk result
-        (λ made. IsWhole made.program made.names both.history.catalogue.sigs s.now made.run) }
 {
     immune_law();
     complete_law();
@@ -71,14 +62,8 @@ pub fn lived<H: House, R: Threads + Wait + Sync>(
     both: Inputs,
     s: &Settings,
 ) -> Result<Made, OutOfMemory>
-    requires settings { AreSettings s.now }
-    requires few { length both.history.catalogue.sigs ≤ 4080 }
-    requires bound { IsBound both.history.names both.program }
-    requires near { AreNear both.history.catalogue.sigs }
-    ensures program { IfOk result (λ made. made.program ≡ both.program) }
-    ensures names { IfOk result (λ made. made.names ≡ both.history.names) }
-    ensures whole { IfOk result
-        (λ made. IsWhole made.program made.names both.history.catalogue.sigs s.now made.run) }
+    requires { MayRun both s.now }
+    ensures made { IfOk result (IsMadeOf both s.now) }
     ensures count { IfOk result
         (λ made. H.count house.new ≡ risen (by_threads (past made.run.tables.entries))
         (H.count house.old)) }

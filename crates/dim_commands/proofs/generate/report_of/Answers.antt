@@ -10,9 +10,9 @@ returns c =
     let loaded = c.in_ok-both.both.history.catalogue.sigs in
     let made = c.in_ok-made.made in
     let run = made.run in
-    let whole = c.in_ok-made.ensures.whole in
+    let whole = c.in_ok-made.ensures.made.whole in
     let is : IsPlayed x c.args.s.now made.names made.program loaded run.tables.entries =
-    is_played x c.args.s.now made.names made.program loaded run.tables.entries (c.in_ok-made.ensures.names ∙ c.in_ok-both.ensures.names) (c.in_ok-made.ensures.program ∙ c.in_ok-both.ensures.program) c.in_ok-both.ensures.loaded c.in_ok-made.ensures.entries in
+    is_played x c.args.s.now made.names made.program loaded run.tables.entries (c.in_ok-made.ensures.made.names_is ∙ c.in_ok-both.ensures.names) (c.in_ok-made.ensures.made.program_is ∙ c.in_ok-both.ensures.program) c.in_ok-both.ensures.loaded c.in_ok-made.ensures.entries in
     subst (λ (z : Report). IfOk c.ran.result (λ (r : Report). r ≡ z))
     (report_is x c.args.s.now made.names made.program loaded run.catalogue.sigs run.tables.entries run.outcome run.ends.items is whole.catalogue whole.outcome whole.ends)
     c.ran.ensures

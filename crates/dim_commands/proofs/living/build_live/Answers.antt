@@ -9,7 +9,7 @@ returns g c =
     let made = c.in_ok-made.made in
     let run = made.run in
     let x = inputs_of c.args.inputs in
-    let whole = c.in_ok-made.ensures.whole in
+    let whole = c.in_ok-made.ensures.made.whole in
     let output = c.in_ok-output.ensures in
     let is : IsRun x c.args.s.now made.names made.program loaded run.catalogue.sigs run.tables.entries run.outcome run.ends.items (g.H.House.count c.args.house.now) (g.H.House.count c.lived.new.house) =
     record {
@@ -27,5 +27,5 @@ returns g c =
     record {
       lived =
           lived_by x c.args.s.now run.catalogue.sigs run.tables.entries run.outcome run.ends.items (g.H.House.count c.args.house.now) (g.H.House.count c.lived.new.house) c.in_ok-output.output.texts.new_history c.in_ok-output.output.texts.trace c.in_ok-output.output.report
-          made.names made.program loaded (c.in_ok-made.ensures.names ∙ c.in_ok-both.ensures.names) (c.in_ok-made.ensures.program ∙ c.in_ok-both.ensures.program) c.in_ok-both.ensures.loaded is output.history output.trace output.report;
+          made.names made.program loaded (c.in_ok-made.ensures.made.names_is ∙ c.in_ok-both.ensures.names) (c.in_ok-made.ensures.made.program_is ∙ c.in_ok-both.ensures.program) c.in_ok-both.ensures.loaded is output.history output.trace output.report;
     }

@@ -1,23 +1,29 @@
+use Rattle.std.proofs.Common.{refl}
 use Rattle.dim_commands.proofs.WholeLemmas.{whole_by}
 use Rattle.dim_commands.proofs.playing.played.Goals as goal
 
-pub returns-clause-whole : goal.returns-clause-whole
-returns-clause-whole c =
+pub returns-clause-made : goal.returns-clause-made
+returns-clause-made c =
     let both = c.args.both in
     let run = c.in_ok-run.ensures in
-    whole_by c.immune_law.ensures c.complete_law.ensures c.spelled_law.ensures both.program both.history.names both.history.catalogue.sigs c.args.s.now c.in_ok-run.run' record {
-      program = c.law.ensures;
-      bound = c.requires.bound;
-      named = c.law-2.ensures.named;
-      near = c.requires.near;
-      traceable = record {
-        loaded = c.law-2.ensures.catalogue;
-        few_loaded = c.requires.few;
-        executes = run.executes;
-        few = run.room;
-      };
-      catalogue = run.catalogue;
-      ends = run.ends_by_entries;
-      outcome = run.outcome;
-      totals = run.totals;
+    record {
+      program_is = refl;
+      names_is = refl;
+      whole =
+          whole_by c.immune_law.ensures c.complete_law.ensures c.spelled_law.ensures both.program both.history.names both.history.catalogue.sigs c.args.s.now c.in_ok-run.run' record {
+            program = c.law.ensures;
+            bound = c.requires.bound;
+            named = c.law-2.ensures.named;
+            near = c.requires.near;
+            traceable = record {
+              loaded = c.law-2.ensures.catalogue;
+              few_loaded = c.requires.few;
+              executes = run.executes;
+              few = run.room;
+            };
+            catalogue = run.catalogue;
+            ends = run.ends_by_entries;
+            outcome = run.outcome;
+            totals = run.totals;
+          };
     }
