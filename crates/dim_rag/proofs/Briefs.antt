@@ -7,115 +7,129 @@ use Rattle.dim_stack.specs.declared.Frame.{Frame}
 use Rattle.dim_rag.specs.declared.entry.Entry.{Entry}
 use Rattle.dim_rag.specs.declared.entry.Entry.TheVariants.{Go, Yield, Got, Free, Took, Miss, End, Break, Learn}
 use Rattle.dim_rag.specs.declared.entry.MissWhy.TheVariants.{Busy, Avoid}
+use Rattle.dim_rag.specs.declared.journal.brief.Cause.{Cause}
 use Rattle.dim_rag.specs.declared.journal.brief.Brief.{Brief}
 use Rattle.dim_rag.specs.declared.journal.brief.Brief.TheVariants as brief
-use Rattle.dim_rag.specs.Span.{Extent, frames_in, IsIn}
-use Rattle.dim_rag.specs.Journal.{births_at, entry_in_full, entries_of, stack_of, births_of, brief_of, IsWithin, IsJournal}
+use Rattle.dim_rag.specs.Journal.{frames_at, cause_at, entry_in_full, entries_of, stack_of, causes_of, brief_of, AreIn, HasFrames, HasCause, IsJournal}
 
 pub none_more : {X : Type 0} (xs : List X) → xs ≡ xs ++ []
 none_more xs = sym (append-nil xs)
 
--- the frames of a span stay
-frames_stay : (fs xs : List Frame) (p : Extent) → IsIn (length fs) p → frames_in (fs ++ xs) p ≡ frames_in fs p
-frames_stay fs xs p k =
-    let n : length (drop p.start fs) ≡ length fs - p.start = length-drop p.start fs in
-    ap (take p.len) (drop-append-le p.start fs xs (omega (arith, k.1.1)))
-    ∙ take-append-le p.len (drop p.start fs) xs (omega (arith, n, k.1.1))
+-- the frames of a stack stay
+frames_stay : (fs xs : List Frame) (start len : ℕ) → AreIn (length fs) start len → frames_at (fs ++ xs) start len ≡ frames_at fs start len
+frames_stay fs xs start len k =
+    let n : length (drop start fs) ≡ length fs - start = length-drop start fs in
+    ap (take len) (drop-append-le start fs xs (omega (arith, k.1.1)))
+    ∙ take-append-le len (drop start fs) xs (omega (arith, n, k.1.1))
 
--- births stay
-births_stay : (bs ys : List (List ℕ)) (b : ℕ) → b < length bs → births_at (bs ++ ys) b ≡ births_at bs b
-births_stay bs ys b lt = get_or_append_left bs ys [] b lt
+-- a cause stays
+cause_stays : (cs ys : List Cause) (c : ℕ) → c < length cs → cause_at (cs ++ ys) c ≡ cause_at cs c
+cause_stays cs ys c lt = get_or_append_left cs ys (record { sig = 0; births = [] }) c lt
 
-module _ (fs xs : List Frame) (bs ys : List (List ℕ)) where
+module _ (fs xs : List Frame) (cs ys : List Cause) where
   -- an entry stays
-  entry_stays : (b : Brief) → IsWithin (length fs) (length bs) b → entry_in_full (fs ++ xs) (bs ++ ys) b ≡ entry_in_full fs bs b
-  entry_stays (brief.Went t l p) k = ap (λ s. Go t l s) (frames_stay fs xs p k)
-  entry_stays (brief.Yielded t l p sig b) k = ap₂ (λ s c. Yield t l s sig c) (frames_stay fs xs p k.0) (births_stay bs ys b k.1)
-  entry_stays (brief.Obtained t l) k = refl
-  entry_stays (brief.Freed t l) k = refl
-  entry_stays (brief.Took t l p) k = ap (λ s. Took t l s) (frames_stay fs xs p k)
-  entry_stays (brief.MissedBusy t l p holder) k = ap (λ s. Miss t l s (Busy holder)) (frames_stay fs xs p k)
-  entry_stays (brief.MissedAvoid t l p sig b) k = ap₂ (λ s c. Miss t l s (Avoid record { sig = sig; births = c })) (frames_stay fs xs p k.0) (births_stay bs ys b k.1)
-  entry_stays (brief.Ended t why) k = refl
-  entry_stays (brief.Broken set t) k = refl
-  entry_stays (brief.Learnt b) k = ap (λ c. Learn c) (births_stay bs ys b k)
+  entry_stays : (b : Brief) → HasFrames (length fs) b → HasCause (length cs) b → entry_in_full (fs ++ xs) (cs ++ ys) b ≡ entry_in_full fs cs b
+  entry_stays (brief.Went len t l start) k h = ap (λ s. Go t l s) (frames_stay fs xs start len k)
+  entry_stays (brief.Yielded len t l start c) k h = ap₂ (λ s (x : Cause). Yield t l s x.sig x.births) (frames_stay fs xs start len k) (cause_stays cs ys c h)
+  entry_stays (brief.Obtained t l) k h = refl
+  entry_stays (brief.Freed t l) k h = refl
+  entry_stays (brief.Took len t l start) k h = ap (λ s. Took t l s) (frames_stay fs xs start len k)
+  entry_stays (brief.MissedBusy len t l start holder) k h = ap (λ s. Miss t l s (Busy holder)) (frames_stay fs xs start len k)
+  entry_stays (brief.MissedAvoid len t l start c) k h = ap₂ (λ s (x : Cause). Miss t l s (Avoid record { sig = x.sig; births = x.births })) (frames_stay fs xs start len k) (cause_stays cs ys c h)
+  entry_stays (brief.Ended t why) k h = refl
+  entry_stays (brief.Broken set t) k h = refl
+  entry_stays (brief.Learnt c) k h = ap (λ (x : Cause). Learn x.births) (cause_stays cs ys c h)
 
   -- all entries stay
-  entries_stay : (briefs : List Brief) → All (IsWithin (length fs) (length bs)) briefs → entries_of (fs ++ xs) (bs ++ ys) briefs ≡ entries_of fs bs briefs
-  entries_stay [] k = refl
-  entries_stay (b ∷ briefs) k = ap₂ (λ e es. e ∷ es) (entry_stays b (k 0 b (omega arith))) (entries_stay briefs (λ i d lt. k (suc i) d (omega (arith, lt))))
+  entries_stay : (briefs : List Brief) → All (HasFrames (length fs)) briefs → All (HasCause (length cs)) briefs → entries_of (fs ++ xs) (cs ++ ys) briefs ≡ entries_of fs cs briefs
+  entries_stay [] k h = refl
+  entries_stay (b ∷ briefs) k h = ap₂ (λ e es. e ∷ es) (entry_stays b (k 0 b (omega arith)) (h 0 b (omega arith))) (entries_stay briefs (λ i d lt. k (suc i) d (omega (arith, lt))) (λ i d lt. h (suc i) d (omega (arith, lt))))
 
 -- the frames of the newest entry are those put behind
-frames_back : (fs s : List Frame) → frames_in (fs ++ s) record { start = length fs; len = length s } ≡ s
+frames_back : (fs s : List Frame) → frames_at (fs ++ s) (length fs) (length s) ≡ s
 frames_back fs s = ap (take (length s)) (drop_at fs s (length fs) refl) ∙ take_all (length s) s (omega arith)
 
--- so are its births
-births_back : (bs : List (List ℕ)) (b : List ℕ) → births_at (bs ++ b ∷ []) (length bs) ≡ b
-births_back bs b = get_or_push bs b [] (length bs) refl
+-- so is its cause
+cause_back : (cs : List Cause) (c : Cause) → cause_at (cs ++ c ∷ []) (length cs) ≡ c
+cause_back cs c = get_or_push cs c (record { sig = 0; births = [] }) (length cs) refl
 
 -- the newest entry is there
-pub entry_back : (fs : List Frame) (bs : List (List ℕ)) (e : Entry) → entry_in_full (fs ++ stack_of e) (bs ++ births_of e) (brief_of (length fs) (length bs) e) ≡ e
-entry_back fs bs (Go t l s) = ap (λ x. Go t l x) (frames_back fs s)
-entry_back fs bs (Yield t l s sig b) = ap₂ (λ x c. Yield t l x sig c) (frames_back fs s) (births_back bs b)
-entry_back fs bs (Got t l) = refl
-entry_back fs bs (Free t l) = refl
-entry_back fs bs (Took t l s) = ap (λ x. Took t l x) (frames_back fs s)
-entry_back fs bs (Miss t l s (Busy holder)) = ap (λ x. Miss t l x (Busy holder)) (frames_back fs s)
-entry_back fs bs (Miss t l s (Avoid named)) = ap₂ (λ x c. Miss t l x (Avoid record { sig = named.sig; births = c })) (frames_back fs s) (births_back bs named.births)
-entry_back fs bs (End t why) = refl
-entry_back fs bs (Break set t) = refl
-entry_back fs bs (Learn b) = ap (λ c. Learn c) (births_back bs b)
+pub entry_back : (fs : List Frame) (cs : List Cause) (e : Entry) → entry_in_full (fs ++ stack_of e) (cs ++ causes_of e) (brief_of (length fs) (length cs) e) ≡ e
+entry_back fs cs (Go t l s) = ap (λ x. Go t l x) (frames_back fs s)
+entry_back fs cs (Yield t l s sig b) = ap₂ (λ x (c : Cause). Yield t l x c.sig c.births) (frames_back fs s) (cause_back cs record { sig = sig; births = b })
+entry_back fs cs (Got t l) = refl
+entry_back fs cs (Free t l) = refl
+entry_back fs cs (Took t l s) = ap (λ x. Took t l x) (frames_back fs s)
+entry_back fs cs (Miss t l s (Busy holder)) = ap (λ x. Miss t l x (Busy holder)) (frames_back fs s)
+entry_back fs cs (Miss t l s (Avoid named)) = ap₂ (λ x (c : Cause). Miss t l x (Avoid record { sig = c.sig; births = c.births })) (frames_back fs s) (cause_back cs record { sig = named.sig; births = named.births })
+entry_back fs cs (End t why) = refl
+entry_back fs cs (Break set t) = refl
+entry_back fs cs (Learn b) = ap (λ (c : Cause). Learn c.births) (cause_back cs record { sig = 0; births = b })
 
 -- the entries are those before, and the newest one
-pub entries_more : (fs : List Frame) (bs : List (List ℕ)) (briefs : List Brief) (e : Entry) → All (IsWithin (length fs) (length bs)) briefs
-    → entries_of (fs ++ stack_of e) (bs ++ births_of e) (briefs ++ brief_of (length fs) (length bs) e ∷ []) ≡ entries_of fs bs briefs ++ e ∷ []
-entries_more fs bs briefs e k =
-    map-append (entry_in_full (fs ++ stack_of e) (bs ++ births_of e)) briefs (brief_of (length fs) (length bs) e ∷ [])
-    ∙ ap₂ (λ es x. es ++ x ∷ []) (entries_stay fs (stack_of e) bs (births_of e) briefs k) (entry_back fs bs e)
+pub entries_more : (fs : List Frame) (cs : List Cause) (briefs : List Brief) (e : Entry) → All (HasFrames (length fs)) briefs → All (HasCause (length cs)) briefs
+    → entries_of (fs ++ stack_of e) (cs ++ causes_of e) (briefs ++ brief_of (length fs) (length cs) e ∷ []) ≡ entries_of fs cs briefs ++ e ∷ []
+entries_more fs cs briefs e k h =
+    map-append (entry_in_full (fs ++ stack_of e) (cs ++ causes_of e)) briefs (brief_of (length fs) (length cs) e ∷ [])
+    ∙ ap₂ (λ es x. es ++ x ∷ []) (entries_stay fs (stack_of e) cs (causes_of e) briefs k h) (entry_back fs cs e)
 
--- what is named stays there
-pub within_grows : (n m i j : ℕ) (b : Brief) → IsWithin n m b → IsWithin (n + i) (m + j) b
-within_grows n m i j (brief.Went t l p) k = (k.0, (k.1.0, omega (arith, k.1.1)))
-within_grows n m i j (brief.Yielded t l p sig b) k = ((k.0.0, (k.0.1.0, omega (arith, k.0.1.1))), omega (arith, k.1))
-within_grows n m i j (brief.Obtained t l) k = tt
-within_grows n m i j (brief.Freed t l) k = tt
-within_grows n m i j (brief.Took t l p) k = (k.0, (k.1.0, omega (arith, k.1.1)))
-within_grows n m i j (brief.MissedBusy t l p holder) k = (k.0, (k.1.0, omega (arith, k.1.1)))
-within_grows n m i j (brief.MissedAvoid t l p sig b) k = ((k.0.0, (k.0.1.0, omega (arith, k.0.1.1))), omega (arith, k.1))
-within_grows n m i j (brief.Ended t why) k = tt
-within_grows n m i j (brief.Broken set t) k = tt
-within_grows n m i j (brief.Learnt b) k = omega (arith, k)
+-- the frames that are named stay there
+frames_grow : (n i : ℕ) (b : Brief) → HasFrames n b → HasFrames (n + i) b
+frames_grow n i (brief.Went len t l start) k = (k.0, (k.1.0, omega (arith, k.1.1)))
+frames_grow n i (brief.Yielded len t l start c) k = (k.0, (k.1.0, omega (arith, k.1.1)))
+frames_grow n i (brief.Obtained t l) k = tt
+frames_grow n i (brief.Freed t l) k = tt
+frames_grow n i (brief.Took len t l start) k = (k.0, (k.1.0, omega (arith, k.1.1)))
+frames_grow n i (brief.MissedBusy len t l start holder) k = (k.0, (k.1.0, omega (arith, k.1.1)))
+frames_grow n i (brief.MissedAvoid len t l start c) k = (k.0, (k.1.0, omega (arith, k.1.1)))
+frames_grow n i (brief.Ended t why) k = tt
+frames_grow n i (brief.Broken set t) k = tt
+frames_grow n i (brief.Learnt c) k = tt
 
--- an entry needs one list of births at most
-few_births : (e : Entry) → length (births_of e) ≤ 1
-few_births (Go t l s) = omega arith
-few_births (Yield t l s sig b) = omega arith
-few_births (Got t l) = omega arith
-few_births (Free t l) = omega arith
-few_births (Took t l s) = omega arith
-few_births (Miss t l s (Busy holder)) = omega arith
-few_births (Miss t l s (Avoid named)) = omega arith
-few_births (End t why) = omega arith
-few_births (Break set t) = omega arith
-few_births (Learn b) = omega arith
+-- so does the cause
+cause_grows : (m j : ℕ) (b : Brief) → HasCause m b → HasCause (m + j) b
+cause_grows m j (brief.Went len t l start) k = tt
+cause_grows m j (brief.Yielded len t l start c) k = omega (arith, k)
+cause_grows m j (brief.Obtained t l) k = tt
+cause_grows m j (brief.Freed t l) k = tt
+cause_grows m j (brief.Took len t l start) k = tt
+cause_grows m j (brief.MissedBusy len t l start holder) k = tt
+cause_grows m j (brief.MissedAvoid len t l start c) k = omega (arith, k)
+cause_grows m j (brief.Ended t why) k = tt
+cause_grows m j (brief.Broken set t) k = tt
+cause_grows m j (brief.Learnt c) k = omega (arith, k)
 
--- a stack and births that are put behind keep to the room for one more entry
-pub journal_more : (spare briefs_room frames_room births_room : ℕ) (briefs : List Brief) (frames : List Frame) (births : List (List ℕ)) (e : Entry) (b : Brief) (frames_after births_after : ℕ)
-    → IsJournal spare briefs_room frames_room births_room briefs frames births → 1 ≤ spare
-    → length (stack_of e) ≤ 32 → frames_room ≤ frames_after → births_room ≤ births_after
-    → IsWithin (length (frames ++ stack_of e)) (length (births ++ births_of e)) b
-    → IsJournal (spare - 1) briefs_room frames_after births_after (briefs ++ b ∷ []) (frames ++ stack_of e) (births ++ births_of e)
-journal_more spare briefs_room frames_room births_room briefs frames births e b frames_after births_after k one short more_frames more_births w =
+-- an entry needs one cause at most
+few_causes : (e : Entry) → length (causes_of e) ≤ 1
+few_causes (Go t l s) = omega arith
+few_causes (Yield t l s sig b) = omega arith
+few_causes (Got t l) = omega arith
+few_causes (Free t l) = omega arith
+few_causes (Took t l s) = omega arith
+few_causes (Miss t l s (Busy holder)) = omega arith
+few_causes (Miss t l s (Avoid named)) = omega arith
+few_causes (End t why) = omega arith
+few_causes (Break set t) = omega arith
+few_causes (Learn b) = omega arith
+
+-- a stack and a cause that are put behind keep to the room for one more entry
+pub journal_more : (spare briefs_room frames_room causes_room : ℕ) (briefs : List Brief) (frames : List Frame) (causes : List Cause) (e : Entry) (b : Brief) (frames_after causes_after : ℕ)
+    → IsJournal spare briefs_room frames_room causes_room briefs frames causes → 1 ≤ spare
+    → length (stack_of e) ≤ 32 → frames_room ≤ frames_after → causes_room ≤ causes_after
+    → HasFrames (length (frames ++ stack_of e)) b → HasCause (length (causes ++ causes_of e)) b
+    → IsJournal (spare - 1) briefs_room frames_after causes_after (briefs ++ b ∷ []) (frames ++ stack_of e) (causes ++ causes_of e)
+journal_more spare briefs_room frames_room causes_room briefs frames causes e b frames_after causes_after k one short more_frames more_causes f c =
     let n : length (frames ++ stack_of e) ≡ length frames + length (stack_of e) = length-append frames (stack_of e) in
-    let m : length (births ++ births_of e) ≡ length births + length (births_of e) = length-append births (births_of e) in
-    let few : length (births_of e) ≤ 1 = few_births e in
+    let m : length (causes ++ causes_of e) ≡ length causes + length (causes_of e) = length-append causes (causes_of e) in
+    let few : length (causes_of e) ≤ 1 = few_causes e in
     let p : length (briefs ++ b ∷ []) ≡ length briefs + 1 = length_push briefs b in
     record {
-      within = All-push (IsWithin (length (frames ++ stack_of e)) (length (births ++ births_of e))) briefs b (λ i d lt. rw (n, m) (within_grows (length frames) (length births) (length (stack_of e)) (length (births_of e)) (get_or briefs i d) (k.within i d lt))) w;
+      has_frames = All-push (HasFrames (length (frames ++ stack_of e))) briefs b (λ i d lt. rw n (frames_grow (length frames) (length (stack_of e)) (get_or briefs i d) (k.has_frames i d lt))) f;
+      has_causes = All-push (HasCause (length (causes ++ causes_of e))) briefs b (λ i d lt. rw m (cause_grows (length causes) (length (causes_of e)) (get_or briefs i d) (k.has_causes i d lt))) c;
       few = omega (arith, m, few, p, k.few);
-      few_frames = omega (arith, n, short, p, k.few_frames);
+      few_frames = omega (arith, n, one, short, k.few_frames);
       small = omega (arith, p, one, k.small);
       room = omega (arith, p, one, k.room);
       room_frames = omega (arith, n, one, short, k.room_frames, more_frames);
-      room_births = omega (arith, m, one, few, k.room_births, more_births);
+      room_causes = omega (arith, m, one, few, k.room_causes, more_causes);
     }

@@ -1,5 +1,5 @@
--- How entries are kept: in brief, with their frames and their births in lists beside.
-use Rattle.std.specs.Prelude.{ℕ, ◌+◌, ◌*◌, ◌<◌, ◌≤◌, ⊤, ◌^◌, List, [], ◌∷◌, length, map, slice_index_or, All}
+-- How entries are kept: in brief, with their frames and their causes in lists beside.
+use Rattle.std.specs.Prelude.{ℕ, ◌+◌, ◌*◌, ◌<◌, ◌≤◌, ⊤, ◌^◌, List, [], ◌∷◌, length, map, take, drop, slice_index_or, All}
 use Rattle.dim_base.specs.declared.Tid.{Tid}
 use Rattle.dim_base.specs.declared.Lid.{Lid}
 use Rattle.dim_stack.specs.declared.Frame.{Frame}
@@ -7,7 +7,7 @@ use Rattle.dim_rag.specs.declared.entry.Entry.{Entry}
 use Rattle.dim_rag.specs.declared.entry.Entry.TheVariants.{Go, Yield, Got, Free, Took, Miss, End, Break, Learn}
 use Rattle.dim_rag.specs.declared.entry.MissWhy.{MissWhy}
 use Rattle.dim_rag.specs.declared.entry.MissWhy.TheVariants.{Busy, Avoid}
-use Rattle.dim_rag.specs.Span.{Extent, frames_in, IsIn}
+use Rattle.dim_rag.specs.declared.journal.brief.Cause.{Cause}
 use Rattle.dim_rag.specs.declared.journal.brief.Brief.{Brief}
 use Rattle.dim_rag.specs.declared.journal.brief.Brief.TheVariants as brief
 
@@ -16,26 +16,30 @@ pub record Recorded : Type 0 where
   pub entries : List Entry
   pub spare : ℕ
 
--- births by their number
-abbrev pub births_at : List (List ℕ) → ℕ → List ℕ
-births_at bs n = slice_index_or bs n []
+-- so many frames from a place on
+abbrev pub frames_at : List Frame → ℕ → ℕ → List Frame
+frames_at fs start len = take len (drop start fs)
+
+-- a cause by its number
+abbrev pub cause_at : List Cause → ℕ → Cause
+cause_at cs c = slice_index_or cs c record { sig = 0; births = [] }
 
 -- the entry that a brief one stands for
-abbrev pub entry_in_full : List Frame → List (List ℕ) → Brief → Entry
-entry_in_full fs bs (brief.Went t l p) = Go t l (frames_in fs p)
-entry_in_full fs bs (brief.Yielded t l p sig b) = Yield t l (frames_in fs p) sig (births_at bs b)
-entry_in_full fs bs (brief.Obtained t l) = Got t l
-entry_in_full fs bs (brief.Freed t l) = Free t l
-entry_in_full fs bs (brief.Took t l p) = Took t l (frames_in fs p)
-entry_in_full fs bs (brief.MissedBusy t l p holder) = Miss t l (frames_in fs p) (Busy holder)
-entry_in_full fs bs (brief.MissedAvoid t l p sig b) = Miss t l (frames_in fs p) (Avoid record { sig = sig; births = births_at bs b })
-entry_in_full fs bs (brief.Ended t why) = End t why
-entry_in_full fs bs (brief.Broken set t) = Break set t
-entry_in_full fs bs (brief.Learnt b) = Learn (births_at bs b)
+abbrev pub entry_in_full : List Frame → List Cause → Brief → Entry
+entry_in_full fs cs (brief.Went len t l start) = Go t l (frames_at fs start len)
+entry_in_full fs cs (brief.Yielded len t l start c) = Yield t l (frames_at fs start len) (cause_at cs c).sig (cause_at cs c).births
+entry_in_full fs cs (brief.Obtained t l) = Got t l
+entry_in_full fs cs (brief.Freed t l) = Free t l
+entry_in_full fs cs (brief.Took len t l start) = Took t l (frames_at fs start len)
+entry_in_full fs cs (brief.MissedBusy len t l start holder) = Miss t l (frames_at fs start len) (Busy holder)
+entry_in_full fs cs (brief.MissedAvoid len t l start c) = Miss t l (frames_at fs start len) (Avoid record { sig = (cause_at cs c).sig; births = (cause_at cs c).births })
+entry_in_full fs cs (brief.Ended t why) = End t why
+entry_in_full fs cs (brief.Broken set t) = Break set t
+entry_in_full fs cs (brief.Learnt c) = Learn (cause_at cs c).births
 
 -- the entries that these brief ones stand for
-abbrev pub entries_of : List Frame → List (List ℕ) → List Brief → List Entry
-entries_of fs bs briefs = map (entry_in_full fs bs) briefs
+abbrev pub entries_of : List Frame → List Cause → List Brief → List Entry
+entries_of fs cs briefs = map (entry_in_full fs cs) briefs
 
 -- the frames that an entry needs
 abbrev pub stack_of : Entry → List Frame
@@ -49,60 +53,68 @@ stack_of (End t why) = []
 stack_of (Break set t) = []
 stack_of (Learn b) = []
 
--- the births that a miss needs
-abbrev pub births_of_miss : MissWhy → List (List ℕ)
-births_of_miss (Busy holder) = []
-births_of_miss (Avoid named) = named.births ∷ []
+-- the causes that a miss needs
+abbrev pub causes_of_miss : MissWhy → List Cause
+causes_of_miss (Busy holder) = []
+causes_of_miss (Avoid named) = record { sig = named.sig; births = named.births } ∷ []
 
--- the births that an entry needs
-abbrev pub births_of : Entry → List (List ℕ)
-births_of (Go t l s) = []
-births_of (Yield t l s sig b) = b ∷ []
-births_of (Got t l) = []
-births_of (Free t l) = []
-births_of (Took t l s) = []
-births_of (Miss t l s why) = births_of_miss why
-births_of (End t why) = []
-births_of (Break set t) = []
-births_of (Learn b) = b ∷ []
+-- the causes that an entry needs, one at most; a Learn's names no signature
+abbrev pub causes_of : Entry → List Cause
+causes_of (Go t l s) = []
+causes_of (Yield t l s sig b) = record { sig = sig; births = b } ∷ []
+causes_of (Got t l) = []
+causes_of (Free t l) = []
+causes_of (Took t l s) = []
+causes_of (Miss t l s why) = causes_of_miss why
+causes_of (End t why) = []
+causes_of (Break set t) = []
+causes_of (Learn b) = record { sig = 0; births = b } ∷ []
 
 -- a miss in brief
-abbrev pub brief_of_miss : Tid → Lid → Extent → ℕ → MissWhy → Brief
-brief_of_miss t l p m (Busy holder) = brief.MissedBusy t l p holder
-brief_of_miss t l p m (Avoid named) = brief.MissedAvoid t l p named.sig m
+abbrev pub brief_of_miss : ℕ → Tid → Lid → ℕ → ℕ → MissWhy → Brief
+brief_of_miss len t l n m (Busy holder) = brief.MissedBusy len t l n holder
+brief_of_miss len t l n m (Avoid named) = brief.MissedAvoid len t l n m
 
--- an entry in brief, behind n frames and m lists of births
+-- an entry in brief, behind n frames and m causes
 abbrev pub brief_of : ℕ → ℕ → Entry → Brief
-brief_of n m (Go t l s) = brief.Went t l record { start = n; len = length s }
-brief_of n m (Yield t l s sig b) = brief.Yielded t l record { start = n; len = length s } sig m
+brief_of n m (Go t l s) = brief.Went (length s) t l n
+brief_of n m (Yield t l s sig b) = brief.Yielded (length s) t l n m
 brief_of n m (Got t l) = brief.Obtained t l
 brief_of n m (Free t l) = brief.Freed t l
-brief_of n m (Took t l s) = brief.Took t l record { start = n; len = length s }
-brief_of n m (Miss t l s why) = brief_of_miss t l record { start = n; len = length s } m why
+brief_of n m (Took t l s) = brief.Took (length s) t l n
+brief_of n m (Miss t l s why) = brief_of_miss (length s) t l n m why
 brief_of n m (End t why) = brief.Ended t why
 brief_of n m (Break set t) = brief.Broken set t
 brief_of n m (Learn b) = brief.Learnt m
 
--- what a brief entry names is among n frames and m lists of births
-abbrev pub IsWithin : ℕ → ℕ → Brief → Type 0
-IsWithin n m (brief.Went t l p) = IsIn n p
-IsWithin n m (brief.Yielded t l p sig b) = IsIn n p × (b < m)
-IsWithin n m (brief.Obtained t l) = ⊤
-IsWithin n m (brief.Freed t l) = ⊤
-IsWithin n m (brief.Took t l p) = IsIn n p
-IsWithin n m (brief.MissedBusy t l p holder) = IsIn n p
-IsWithin n m (brief.MissedAvoid t l p sig b) = IsIn n p × (b < m)
-IsWithin n m (brief.Ended t why) = ⊤
-IsWithin n m (brief.Broken set t) = ⊤
-IsWithin n m (brief.Learnt b) = b < m
+-- 1 to 32 frames from a place on are among n
+abbrev pub AreIn : ℕ → ℕ → ℕ → Type 0
+AreIn n start len = (1 ≤ len) × ((len ≤ 32) × (start + len ≤ n))
 
--- all that is named is there, and there is room for the frames and the births of so many more
--- entries
-pub record IsJournal (spare briefs_room frames_room births_room : ℕ) (briefs : List Brief) (frames : List Frame) (births : List (List ℕ)) : Type 0 where
-  pub within : All (IsWithin (length frames) (length births)) briefs
-  pub few : length births ≤ length briefs
-  pub few_frames : length frames ≤ 32 * length briefs
+-- the frames that a brief entry names, if it does, are among n
+abbrev pub HasFrames : ℕ → Brief → Type 0
+HasFrames n (brief.Went len t l start) = AreIn n start len
+HasFrames n (brief.Yielded len t l start c) = AreIn n start len
+HasFrames n (brief.Took len t l start) = AreIn n start len
+HasFrames n (brief.MissedBusy len t l start holder) = AreIn n start len
+HasFrames n (brief.MissedAvoid len t l start c) = AreIn n start len
+HasFrames n _ = ⊤
+
+-- the cause that a brief entry names, if it does, is among m
+abbrev pub HasCause : ℕ → Brief → Type 0
+HasCause m (brief.Yielded len t l start c) = c < m
+HasCause m (brief.MissedAvoid len t l start c) = c < m
+HasCause m (brief.Learnt c) = c < m
+HasCause m _ = ⊤
+
+-- all that is named is there, and there is room for the frames and the causes of so many more
+-- entries; each frame's place is below 2 ^ 32, these included
+pub record IsJournal (spare briefs_room frames_room causes_room : ℕ) (briefs : List Brief) (frames : List Frame) (causes : List Cause) : Type 0 where
+  pub has_frames : All (HasFrames (length frames)) briefs
+  pub has_causes : All (HasCause (length causes)) briefs
+  pub few : length causes ≤ length briefs
+  pub few_frames : length frames + 32 * spare < 2 ^ 32
   pub small : length briefs + spare < 2 ^ 32
   pub room : length briefs + spare ≤ briefs_room
   pub room_frames : length frames + 32 * spare ≤ frames_room
-  pub room_births : length births + spare ≤ births_room
+  pub room_causes : length causes + spare ≤ causes_room

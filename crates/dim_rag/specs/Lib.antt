@@ -17,7 +17,6 @@ pub mod Places
 pub mod EdgeLaws
 pub mod Requests
 pub mod Stays
-pub mod Span
 pub mod Journal
 pub mod Yielded
 pub mod Shown

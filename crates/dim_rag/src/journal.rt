@@ -1,35 +1,36 @@
 //! The entries of a history, kept in brief.
 ghost use Rattle.std.specs.Prelude.{◌≡◌, ◌+◌, ◌-◌, ◌<◌, ◌≤◌, ◌^◌, [], ◌∷◌, ◌++◌, ◌↔◌, length, slice_get, map, max, All, Some, IsTrue, IfOk, OnOk, OnErr};
-ghost use Rattle.dim_rag.specs.Journal.{IsWithin, entries_of};
+ghost use Rattle.dim_rag.specs.Journal.{HasFrames, HasCause, entries_of};
 ghost use Rattle.dim_rag.specs.Shown.{HasStack, shown};
 ghost use Rattle.dim_rag.specs.Yielded.{is_learn, yielded};
 
 pub mod brief;
-mod span;
 
-use crate::births::Births;
 use crate::entry::{Entry, MissWhy};
 use crate::entry_ref::EntryRef;
-use brief::{Brief, brief_of, entry_in_full, is_learn, look, yielded};
+use brief::{Brief, Cause, brief_of, entry_in_full, is_learn, look, yielded};
 use dim_base::{OutOfMemory, Tid};
 use dim_stack::Frame;
 use std::alloc::Global;
 use std::marker::Model;
 
-/// For at most so many entries more an empty journal asks room.
-const MORE: usize = 4096;
+/// For so many entries more an empty journal asks room.
+const MORE: usize = 8192;
+
+/// A journal keeps fewer frames than this, so that a u32 has the place of each.
+const TOO_MANY_FRAMES: usize = 4_294_967_296;
 
 /// The entries of a history, oldest first.
 ///
-/// A contract sees them, and for how many further ones there is room. An entry takes 28 bytes, 8
-/// for each frame of its stack, and 136 for its births where it has some. No call but `reserve` and
+/// A contract sees them, and for how many further ones there is room. An entry takes 20 bytes, 8
+/// for each frame of its stack, and 144 for its births where it has some. No call but `reserve` and
 /// `entries` takes memory.
 #[derive(Drop)]
 pub struct Journal {
     spare: u32,
     briefs: Vec<Brief>,
     frames: Vec<Frame>,
-    births: Vec<Births>,
+    causes: Vec<Cause>,
 }
 
 impl Model for Journal {
@@ -38,9 +39,9 @@ impl Model for Journal {
 
     ghost Value = { Recorded };
 
-    ghost view = { λ a. record { entries = entries_of a.frames.items a.births.items a.briefs.items; spare = a.spare } };
+    ghost view = { λ a. record { entries = entries_of a.frames.items a.causes.items a.briefs.items; spare = a.spare } };
 
-    ghost invariant = { λ a. IsJournal a.spare (vec_capacity a.briefs) (vec_capacity a.frames) (vec_capacity a.births) a.briefs.items a.frames.items a.births.items };
+    ghost invariant = { λ a. IsJournal a.spare (vec_capacity a.briefs) (vec_capacity a.frames) (vec_capacity a.causes) a.briefs.items a.frames.items a.causes.items };
 }
 
 impl Journal {
@@ -52,14 +53,15 @@ impl Journal {
             spare: 0,
             briefs: Vec::new(alloc),
             frames: Vec::new(alloc),
-            births: Vec::new(alloc),
+            causes: Vec::new(alloc),
         }
     }
 
     /// Makes room for at least `entries` further entries, each with a stack of 32 frames and with
     /// births.
     ///
-    /// Where memory runs out, all is as before.
+    /// Where memory runs out, all is as before. So it is where the frames could come to 2^32, which
+    /// take 32 GB.
     pub fn reserve(&mut self, entries: u32) -> Result<(), OutOfMemory>
         requires { length self.old.entries + entries < 2 ^ 32 }
         ensures ok { OnOk result
@@ -70,9 +72,12 @@ impl Journal {
             return Ok(());
         }
         let room = room_for(entries, self.briefs.len());
+        if self.frames.len() + 32 * room >= TOO_MANY_FRAMES {
+            return Err(OutOfMemory);
+        }
         self.briefs.reserve(room)?;
         self.frames.reserve(32 * room)?;
-        self.births.reserve(room)?;
+        self.causes.reserve(room)?;
         self.spare = entries;
         Ok(())
     }
@@ -98,7 +103,7 @@ impl Journal {
             ≡ record self.old
             { entries = self.old.entries ++ shown e.now ∷ []; spare = self.old.spare - 1 } }
     {
-        let brief = brief_of(&mut self.frames, &mut self.births, e);
+        let brief = brief_of(&mut self.frames, &mut self.causes, e);
         self.briefs.push_reserved(brief);
         self.spare -= 1;
     }
@@ -123,16 +128,19 @@ impl Journal {
         requires { place < length self.now.entries }
         ensures { slice_get self.now.entries place ≡ Some result }
     {
-        entry_in_full(&self.frames, &self.births, &self.briefs[place as usize])
+        entry_in_full(&self.frames, &self.causes, &self.briefs[place as usize])
     }
 
     /// The entry at a place below the length, by reference. It makes no entry.
+    ///
+    /// It is inlined, so that the kind of an entry is asked for once where it is looked at.
+    #[inline(always)]
     pub fn look(&self, place: u32) -> EntryRef<'_>
         requires { place < length self.now.entries }
         ensures entry { slice_get self.now.entries place ≡ Some (shown result) }
         ensures stack { HasStack result }
     {
-        look(&self.frames, &self.births, &self.briefs[place as usize])
+        look(&self.frames, &self.causes, &self.briefs[place as usize])
     }
 
     /// The number of the signature that the entry at a place names, where it is a Yield. The place
@@ -141,7 +149,7 @@ impl Journal {
         requires { place < length self.now.entries }
         ensures { slice_get (map yielded self.now.entries) place ≡ Some result }
     {
-        yielded(&self.briefs[place as usize])
+        yielded(&self.causes, &self.briefs[place as usize])
     }
 
     /// Whether the entry at a place is a Learn. The place is below the length.
@@ -156,21 +164,20 @@ impl Journal {
     pub fn entries(&self, alloc: Global) -> Result<Vec<Entry>, OutOfMemory>
         ensures { IfOk result (λ all. all.items ≡ self.now.entries) }
     {
-        entries_of(alloc, &self.frames, &self.births, &self.briefs)
+        entries_of(alloc, &self.frames, &self.causes, &self.briefs)
     }
 }
 
 /// For how many further entries a journal of this length asks room, so as to have it for `entries`.
 ///
-/// One that is empty asks for as many more, or for 4,096 more, since the next `reserve` for as many
-/// would else move all that the first one took.
+/// One that is empty asks for 8,192 more, since a list that begins small is moved again and again as
+/// it grows.
 fn room_for(entries: u32, len: usize) -> usize
     ensures low { entries ≤ result }
-    ensures high { result ≤ entries + 4096 }
+    ensures high { result ≤ entries + 8192 }
 {
-    let entries = entries as usize;
-    let more = if len == 0 { entries.min(MORE) } else { 0 };
-    entries + more
+    let more = if len == 0 { MORE } else { 0 };
+    entries as usize + more
 }
 
 /// Appends an entry.
@@ -187,15 +194,16 @@ fn add(entries: &mut Vec<Entry>, e: Entry) -> Result<(), OutOfMemory>
 fn entries_of(
     alloc: Global,
     frames: &[Frame],
-    births: &[Births],
+    causes: &[Cause],
     briefs: &[Brief],
 ) -> Result<Vec<Entry>, OutOfMemory>
-    requires { All (IsWithin (length frames.now) (length births.now)) briefs.now }
-    ensures { IfOk result (λ all. all.items ≡ entries_of frames.now births.now briefs.now) }
+    requires frames { All (HasFrames (length frames.now)) briefs.now }
+    requires causes { All (HasCause (length causes.now)) briefs.now }
+    ensures { IfOk result (λ all. all.items ≡ entries_of frames.now causes.now briefs.now) }
 {
     let mut all = Vec::new(alloc);
     for brief in briefs {
-        add(&mut all, entry_in_full(frames, births, brief))?;
+        add(&mut all, entry_in_full(frames, causes, brief))?;
     }
     Ok(all)
 }

@@ -131,6 +131,9 @@ impl Tables {
     }
 
     /// The entry at a place below the length, by reference. It makes no entry, and takes no memory.
+    ///
+    /// It is inlined, so that the kind of an entry is asked for once where it is looked at.
+    #[inline(always)]
     pub fn look(&self, place: u32) -> EntryRef<'_>
         requires { place < length self.now.entries }
         ensures { slice_get self.now.entries place ≡ Some (shown result) }

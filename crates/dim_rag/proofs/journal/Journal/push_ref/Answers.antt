@@ -12,15 +12,15 @@ recorded es n = record { entries = es; spare = n }
 -- there is room for one entry less
 pub invariant_of-self : goal.invariant_of-self
 invariant_of-self c =
-    rw (c.push_reserved.ensures.items, c.push_reserved.ensures.capacity, c.brief_of-brief.ensures.frames, c.brief_of-brief.ensures.births)
+    rw (c.push_reserved.ensures.items, c.push_reserved.ensures.capacity, c.brief_of-brief.ensures.frames, c.brief_of-brief.ensures.causes)
     (journal_more _ _ _ _ _ _ _ (shown c.args.e.now) c.brief_of-brief.result _ _ c.self.invariant (rw (← c.self.view_is) at c.requires.room)
-    c.brief_of-brief.ensures.short c.brief_of-brief.ensures.frames_capacity c.brief_of-brief.ensures.births_capacity
-    (rw (c.brief_of-brief.ensures.frames, c.brief_of-brief.ensures.births) at c.brief_of-brief.ensures.within))
+    c.brief_of-brief.ensures.short c.brief_of-brief.ensures.frames_capacity c.brief_of-brief.ensures.causes_capacity
+    (rw (c.brief_of-brief.ensures.frames) at c.brief_of-brief.ensures.has_frames) (rw (c.brief_of-brief.ensures.causes) at c.brief_of-brief.ensures.has_cause))
 
 -- the new entry is behind the others
 pub returns : goal.returns
 returns c =
     rw (← c.self.view_is)
     (ap (λ (es : List Entry). recorded es (c.self.inside.spare - 1))
-    (rw (c.push_reserved.ensures.items, c.brief_of-brief.ensures.frames, c.brief_of-brief.ensures.births, c.brief_of-brief.ensures.value)
-    (entries_more c.self.inside.frames.items c.self.inside.births.items c.self.inside.briefs.items (shown c.args.e.now) c.self.invariant.within)))
+    (rw (c.push_reserved.ensures.items, c.brief_of-brief.ensures.frames, c.brief_of-brief.ensures.causes, c.brief_of-brief.ensures.value)
+    (entries_more c.self.inside.frames.items c.self.inside.causes.items c.self.inside.briefs.items (shown c.args.e.now) c.self.invariant.has_frames c.self.invariant.has_causes)))
