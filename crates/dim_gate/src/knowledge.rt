@@ -2,6 +2,7 @@
 ghost use Rattle.std.specs.Prelude.{◌≡◌, ℕ, ◌+◌, ◌-◌, ◌≤◌, ◌∷◌, ◌++◌, [], length, take, is_some, IfOk, None, Option};
 ghost use Rattle.dim_rag.specs.declared.entry.Entry.TheVariants.{Learn};
 ghost use Rattle.dim_rag.specs.History.{past};
+ghost use Rattle.dim_rag.specs.Fits.{FitsAfter, IsInRange};
 ghost use Rattle.dim_rag.specs.Shown.{HasStack, shown};
 ghost use Rattle.dim_rag.specs.Tables.{Replay};
 ghost use Rattle.dim_signature.specs.Catalogue.{signature_number};
@@ -10,7 +11,7 @@ ghost use Rattle.dim_gate.specs.FeedId.{FeedId};
 ghost use Rattle.dim_gate.specs.Gate.{constants, gate_at};
 ghost use Rattle.dim_gate.specs.Known.{known_sigs, learnt_sigs, stacks_of};
 ghost use Rattle.dim_gate.specs.Starved.{learn_fault, is_unlearnt};
-ghost use Rattle.dim_gate.specs.Invariant.{Knows, MayLearn, MayShelve};
+ghost use Rattle.dim_gate.specs.Invariant.{HasEdges, Knows, MayLearn, MayShelve};
 ghost use Rattle.dim_gate.specs.Answer.{reply_of, MayGive};
 ghost use Rattle.dim_gate.specs.Legal.{IsLegalAfter};
 
@@ -28,7 +29,8 @@ use std::alloc::Global;
 /// then those that were learnt.
 #[derive(Drop)]
 pub struct Knowledge {
-    /// The edges of the history.
+    /// The edges of the history where a signature is known, and else none, since they are looked at
+    /// only for a cover of a signature.
     pub index: Index,
     pub catalogue: Catalogue,
     /// The signatures of the catalogue, by their stacks.
@@ -118,8 +120,9 @@ impl Knowledge {
             ≡ gate_at r self.old feed }
     {
         let _few = graph.len(); // for the contract: the entries fit, and there are few
+        let known = self.catalogue.len();
         note_learnt(&mut self.catalogue, &mut self.shelf, graph, self.depth, e);
-        self.index.tell_ref(graph, e);
+        tell_index(&mut self.index, &self.catalogue, graph, e, known);
     }
 
     /// Enters an entry into tables that comes next, and takes in what it makes known.
@@ -170,6 +173,29 @@ impl Knowledge {
     {
         tender::is_unlearnt(graph, &self.catalogue, self.cap, births)
     }
+}
+
+/// Tells an index the entry that comes next, where a signature is known with it. Where none was known
+/// before it, the index first takes in the edges that stand.
+#[inline(always)]
+fn tell_index(index: &mut Index, catalogue: &Catalogue, graph: &Graph, e: &EntryRef<'_>, known: u32)
+    requires room { index.old.room ≡ graph.now.threads + graph.now.locks }
+    requires edges { HasEdges known index.old.edges (past graph.now.entries) }
+    requires more { known ≤ length catalogue.now.sigs }
+    requires stack { HasStack e.now }
+    requires in_range { IsInRange graph.now.threads graph.now.locks (shown e.now) }
+    requires fits { FitsAfter (past graph.now.entries) (shown e.now) }
+    ensures edges { HasEdges (length catalogue.now.sigs) index.new.edges
+        (shown e.now ∷ past graph.now.entries) }
+    ensures room { index.new.room ≡ index.old.room }
+{
+    if catalogue.len() == 0 {
+        return;
+    }
+    if known == 0 {
+        index.catch_up(graph);
+    }
+    index.tell_ref(graph, e);
 }
 
 /// Puts a signature that is learnt into the catalogue and onto the shelf.

@@ -20,7 +20,7 @@ returns-clause-knows c =
     record {
       gate = subst (λ (l : List Sig). IsGate record { threads = c.args.threads; locks = c.args.locks; loaded = l; depth = c.args.depth; cap = known + c.args.learns; entries = []; spare = 0; feed = None } known catalogue) (sym all)
           (fresh c.args.threads c.args.locks c.args.depth (known + c.args.learns) 0 known sigs catalogue same c.len-known.ensures.len c.requires.low c.requires.high most room);
-      edges = ap (λ (x : Edges). x.edges) c.in_ok-index.ensures;
+      edges = record { none = λ q. ap (λ (x : Edges). x.edges) c.in_ok-index.ensures; all = λ q. ap (λ (x : Edges). x.edges) c.in_ok-index.ensures };
       room = ap (λ (x : Edges). x.room) c.in_ok-index.ensures;
       shelved = c.in_ok-shelf.ensures.shelf;
       shelf_room = (let n : length catalogue.sigs ≡ length sigs = ap (λ (s : List Sig). length s) same in omega (arith, n, c.in_ok-shelf.ensures.spare, c.len-known.ensures.len));
