@@ -1,6 +1,7 @@
 //! The entries of a history, kept in brief.
 ghost use Rattle.std.specs.Prelude.{◌≡◌, ◌+◌, ◌-◌, ◌<◌, ◌≤◌, ◌^◌, [], ◌∷◌, ◌++◌, ◌↔◌, length, slice_get, map, max, All, Some, IsTrue, IfOk, OnOk, OnErr};
-ghost use Rattle.dim_rag.specs.Journal.{HasFrames, HasCause, entries_of};
+ghost use Rattle.dim_rag.specs.Fits.{IsInRange};
+ghost use Rattle.dim_rag.specs.Journal.{HasFrames, HasCause, HasWide, entries_of};
 ghost use Rattle.dim_rag.specs.Shown.{HasStack, shown};
 ghost use Rattle.dim_rag.specs.Yielded.{is_learn, yielded};
 
@@ -8,29 +9,31 @@ pub mod brief;
 
 use crate::entry::{Entry, MissWhy};
 use crate::entry_ref::EntryRef;
-use brief::{Brief, Cause, brief_of, entry_in_full, is_learn, look, yielded};
+use brief::{Brief, Cause, brief_of, entry_in_full, is_learn, is_narrow, look, yielded};
 use dim_base::{OutOfMemory, Tid};
 use dim_stack::Frame;
 use std::alloc::Global;
 use std::marker::Model;
 
 /// For so many entries more an empty journal asks room.
-const MORE: usize = 8192;
+const MORE: usize = 16384;
 
 /// A journal keeps fewer frames than this, so that a u32 has the place of each.
 const TOO_MANY_FRAMES: usize = 4_294_967_296;
 
 /// The entries of a history, oldest first.
 ///
-/// A contract sees them, and for how many further ones there is room. An entry takes 20 bytes, 8
-/// for each frame of its stack, and 144 for its births where it has some. No call but `reserve` and
-/// `entries` takes memory.
+/// A contract sees them, and for how many further ones there is room. An entry takes 12 bytes, 8
+/// for each frame of its stack, and 144 for its births where it has some. One of a thread or on a
+/// lock with a number of 256 or more, which no gate makes, is kept in full besides. No call but
+/// `reserve`, `add` and `entries` takes memory.
 #[derive(Drop)]
 pub struct Journal {
     spare: u32,
     briefs: Vec<Brief>,
     frames: Vec<Frame>,
     causes: Vec<Cause>,
+    wide: Vec<Entry>,
 }
 
 impl Model for Journal {
@@ -39,9 +42,9 @@ impl Model for Journal {
 
     ghost Value = { Recorded };
 
-    ghost view = { λ a. record { entries = entries_of a.frames.items a.causes.items a.briefs.items; spare = a.spare } };
+    ghost view = { λ a. record { entries = entries_of a.frames.items a.causes.items a.wide.items a.briefs.items; spare = a.spare } };
 
-    ghost invariant = { λ a. IsJournal a.spare (vec_capacity a.briefs) (vec_capacity a.frames) (vec_capacity a.causes) a.briefs.items a.frames.items a.causes.items };
+    ghost invariant = { λ a. IsJournal a.spare (vec_capacity a.briefs) (vec_capacity a.frames) (vec_capacity a.causes) a.briefs.items a.frames.items a.causes.items a.wide.items };
 }
 
 impl Journal {
@@ -54,6 +57,7 @@ impl Journal {
             briefs: Vec::new(alloc),
             frames: Vec::new(alloc),
             causes: Vec::new(alloc),
+            wide: Vec::new(alloc),
         }
     }
 
@@ -82,9 +86,10 @@ impl Journal {
         Ok(())
     }
 
-    /// Appends an entry, in the room that there is.
+    /// Appends an entry, in the room that there is. Its thread and its lock have numbers below 256.
     pub fn push(&mut self, e: &Entry)
-        requires { 1 ≤ self.old.spare }
+        requires room { 1 ≤ self.old.spare }
+        requires narrow { IsInRange 256 256 e.now }
         ensures { self.new
             ≡ record self.old
             { entries = self.old.entries ++ e.now ∷ []; spare = self.old.spare - 1 } }
@@ -92,13 +97,15 @@ impl Journal {
         self.push_ref(&EntryRef::of(e));
     }
 
-    /// Appends an entry that is given by reference, in the room that there is. No entry is made.
+    /// Appends an entry that is given by reference, in the room that there is. Its thread and its
+    /// lock have numbers below 256. No entry is made.
     ///
     /// It is inlined, so that the kind of an entry is asked for once where it is known.
     #[inline(always)]
     pub fn push_ref(&mut self, e: &EntryRef<'_>)
         requires room { 1 ≤ self.old.spare }
         requires stack { HasStack e.now }
+        requires narrow { IsInRange 256 256 (shown e.now) }
         ensures { self.new
             ≡ record self.old
             { entries = self.old.entries ++ shown e.now ∷ []; spare = self.old.spare - 1 } }
@@ -106,6 +113,46 @@ impl Journal {
         let brief = brief_of(&mut self.frames, &mut self.causes, e);
         self.briefs.push_reserved(brief);
         self.spare -= 1;
+    }
+
+    /// Appends any entry that is given by reference, in the room that there is. Memory is wanted only
+    /// for one of a thread or on a lock with a number of 256 or more; where it runs out, all is as
+    /// before.
+    ///
+    /// It is inlined, so that the kind of an entry is asked for once where it is known.
+    #[inline(always)]
+    pub fn add(&mut self, e: &EntryRef<'_>) -> Result<(), OutOfMemory>
+        requires room { 1 ≤ self.old.spare }
+        requires stack { HasStack e.now }
+        ensures ok { OnOk result
+            (self.new
+            ≡ record self.old
+            { entries = self.old.entries ++ shown e.now ∷ []; spare = self.old.spare - 1 }) }
+        ensures err { OnErr result (self.new ≡ self.old) }
+    {
+        if is_narrow(e) {
+            self.push_ref(e);
+            return Ok(());
+        }
+        self.add_wide(e)
+    }
+
+    /// Appends an entry that is kept in full.
+    #[cold]
+    #[inline(never)]
+    fn add_wide(&mut self, e: &EntryRef<'_>) -> Result<(), OutOfMemory>
+        requires room { 1 ≤ self.old.spare }
+        requires stack { HasStack e.now }
+        ensures ok { OnOk result
+            (self.new
+            ≡ record self.old
+            { entries = self.old.entries ++ shown e.now ∷ []; spare = self.old.spare - 1 }) }
+        ensures err { OnErr result (self.new ≡ self.old) }
+    {
+        let number = keep_wide(&mut self.wide, e)?;
+        self.briefs.push_reserved(Brief::Wide { number });
+        self.spare -= 1;
+        Ok(())
     }
 
     /// Whether there is room for one more.
@@ -128,7 +175,12 @@ impl Journal {
         requires { place < length self.now.entries }
         ensures { slice_get self.now.entries place ≡ Some result }
     {
-        entry_in_full(&self.frames, &self.causes, &self.briefs[place as usize])
+        entry_in_full(
+            &self.frames,
+            &self.causes,
+            &self.wide,
+            &self.briefs[place as usize],
+        )
     }
 
     /// The entry at a place below the length, by reference. It makes no entry.
@@ -140,7 +192,12 @@ impl Journal {
         ensures entry { slice_get self.now.entries place ≡ Some (shown result) }
         ensures stack { HasStack result }
     {
-        look(&self.frames, &self.causes, &self.briefs[place as usize])
+        look(
+            &self.frames,
+            &self.causes,
+            &self.wide,
+            &self.briefs[place as usize],
+        )
     }
 
     /// The number of the signature that the entry at a place names, where it is a Yield. The place
@@ -149,7 +206,7 @@ impl Journal {
         requires { place < length self.now.entries }
         ensures { slice_get (map yielded self.now.entries) place ≡ Some result }
     {
-        yielded(&self.causes, &self.briefs[place as usize])
+        yielded(&self.causes, &self.wide, &self.briefs[place as usize])
     }
 
     /// Whether the entry at a place is a Learn. The place is below the length.
@@ -157,32 +214,46 @@ impl Journal {
         requires { place < length self.now.entries }
         ensures { slice_get (map is_learn self.now.entries) place ≡ Some result }
     {
-        is_learn(&self.briefs[place as usize])
+        is_learn(&self.wide, &self.briefs[place as usize])
     }
 
     /// The entries in full, in a list of their own.
     pub fn entries(&self, alloc: Global) -> Result<Vec<Entry>, OutOfMemory>
         ensures { IfOk result (λ all. all.items ≡ self.now.entries) }
     {
-        entries_of(alloc, &self.frames, &self.causes, &self.briefs)
+        entries_of(alloc, &self.frames, &self.causes, &self.wide, &self.briefs)
     }
 }
 
 /// For how many further entries a journal of this length asks room, so as to have it for `entries`.
 ///
-/// One that is empty asks for 8,192 more, since a list that begins small is moved again and again as
+/// One that is empty asks for 16,384 more, since a list that begins small is moved again and again as
 /// it grows.
 fn room_for(entries: u32, len: usize) -> usize
     ensures low { entries ≤ result }
-    ensures high { result ≤ entries + 8192 }
+    ensures high { result ≤ entries + 16384 }
 {
     let more = if len == 0 { MORE } else { 0 };
     entries as usize + more
 }
 
-/// Appends an entry.
-fn add(entries: &mut Vec<Entry>, e: Entry) -> Result<(), OutOfMemory>
-    ensures { OnOk result (entries.new.items ≡ entries.old.items ++ e ∷ []) }
+/// Puts an entry in full behind the others. It answers its number.
+fn keep_wide(wide: &mut Vec<Entry>, e: &EntryRef<'_>) -> Result<u32, OutOfMemory>
+    requires stack { HasStack e.now }
+    requires few { length wide.old.items < 2 ^ 32 }
+    ensures number { IfOk result (λ n. n ≡ length wide.old.items) }
+    ensures items { OnOk result (wide.new.items ≡ wide.old.items ++ shown e.now ∷ []) }
+    ensures kept { OnErr result (wide.new.items ≡ wide.old.items) }
+{
+    let number = wide.len() as u32;
+    append(wide, e.entry())?;
+    Ok(number)
+}
+
+/// Puts an entry behind the others.
+fn append(entries: &mut Vec<Entry>, e: Entry) -> Result<(), OutOfMemory>
+    ensures ok { OnOk result (entries.new.items ≡ entries.old.items ++ e ∷ []) }
+    ensures err { OnErr result (entries.new.items ≡ entries.old.items) }
 {
     // A value of this type in the function lets the check pass an `Entry` to a generic function.
     let _why = MissWhy::Busy { holder: Tid(0) };
@@ -195,15 +266,17 @@ fn entries_of(
     alloc: Global,
     frames: &[Frame],
     causes: &[Cause],
+    wide: &[Entry],
     briefs: &[Brief],
 ) -> Result<Vec<Entry>, OutOfMemory>
     requires frames { All (HasFrames (length frames.now)) briefs.now }
     requires causes { All (HasCause (length causes.now)) briefs.now }
-    ensures { IfOk result (λ all. all.items ≡ entries_of frames.now causes.now briefs.now) }
+    requires wide { All (HasWide (length wide.now)) briefs.now }
+    ensures { IfOk result (λ all. all.items ≡ entries_of frames.now causes.now wide.now briefs.now) }
 {
     let mut all = Vec::new(alloc);
     for brief in briefs {
-        add(&mut all, entry_in_full(frames, causes, brief))?;
+        append(&mut all, entry_in_full(frames, causes, wide, brief))?;
     }
     Ok(all)
 }

@@ -164,6 +164,14 @@ fn a_lock_and_a_thread_that_the_program_lacks_are_illegal(rt: HostRuntime) {
     told(&rt, rt.alloc(), LONELY, &[&thread], no(0, Rule::Legal));
 }
 
+#[test]
+fn a_lock_and_a_thread_whose_numbers_take_more_than_a_byte_are_illegal(rt: HostRuntime) {
+    let lock = [go(0, 0, at(0, 2)), got(0, 256)];
+    told(&rt, rt.alloc(), LONELY, &[&lock], no(1, Rule::Legal));
+    let thread = [go(256, 0, at(0, 2))];
+    told(&rt, rt.alloc(), LONELY, &[&thread], no(0, Rule::Legal));
+}
+
 /// Thread 0 takes the lock of AGAIN.
 fn first() -> [Entry; 2] {
     [go(0, 0, at(0, 0)), got(0, 0)]
