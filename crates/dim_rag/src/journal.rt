@@ -1,5 +1,5 @@
 //! The entries of a history, kept in brief.
-ghost use Rattle.std.specs.Prelude.{◌≡◌, ◌+◌, ◌-◌, ◌<◌, ◌≤◌, ◌^◌, [], ◌∷◌, ◌++◌, ◌↔◌, length, slice_get, map, max, All, Some, IsTrue, IfOk, OnOk, OnErr};
+ghost use Rattle.std.specs.Prelude.{◌≡◌, ◌+◌, ◌-◌, ◌<◌, ◌≤◌, ◌^◌, [], ◌∷◌, ◌++◌, ◌↔◌, length, slice_get, map, max, All, Some, IsTrue, IfOk, IsOk, OnOk, OnErr};
 ghost use Rattle.dim_rag.specs.Fits.{IsInRange};
 ghost use Rattle.dim_rag.specs.Journal.{HasFrames, HasCause, HasWide, entries_of};
 ghost use Rattle.dim_rag.specs.Shown.{HasStack, shown};
@@ -129,6 +129,7 @@ impl Journal {
             ≡ record self.old
             { entries = self.old.entries ++ shown e.now ∷ []; spare = self.old.spare - 1 }) }
         ensures err { OnErr result (self.new ≡ self.old) }
+        ensures narrow { IsInRange 256 256 (shown e.now) → IsOk result }
     {
         if is_narrow(e) {
             self.push_ref(e);

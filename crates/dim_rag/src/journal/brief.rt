@@ -1,5 +1,5 @@
 //! Entries in brief: what of them has a small size, and where the rest of them lies.
-ghost use Rattle.std.specs.Prelude.{◌≡◌, IsTrue, List, ◌∷◌, [], ◌+◌, ◌<◌, ◌≤◌, ◌^◌, ◌++◌, length, vec_len, vec_capacity};
+ghost use Rattle.std.specs.Prelude.{◌≡◌, IsTrue, List, ◌∷◌, [], ◌+◌, ◌<◌, ◌≤◌, ◌^◌, ◌++◌, ◌↔◌, length, vec_len, vec_capacity};
 ghost use Rattle.dim_stack.specs.declared.Frame.{Frame};
 ghost use Rattle.dim_rag.specs.declared.journal.brief.Cause.{Cause};
 ghost use Rattle.dim_rag.specs.Shown.{HasStack, shown};
@@ -92,20 +92,12 @@ const _: () = prove!(size_of::<Brief>() <= 12);
 // A cause takes 144 bytes.
 const _: () = prove!(size_of::<Cause>() == 144);
 
-/// The number of a thread in a byte.
-fn byte_of(t: Tid) -> u8
-    requires { t.0 < 256 }
-    ensures { result ≡ t.0 }
+/// The number of a thread or a lock in a byte.
+fn byte_of(number: u32) -> u8
+    requires { number < 256 }
+    ensures { result ≡ number }
 {
-    t.0 as u8
-}
-
-/// The number of a lock in a byte.
-fn byte_of_lock(l: Lid) -> u8
-    requires { l.0 < 256 }
-    ensures { result ≡ l.0 }
-{
-    l.0 as u8
+    number as u8
 }
 
 /// The thread whose number is in a byte.
@@ -182,8 +174,8 @@ pub fn brief_of(frames: &mut Vec<Frame>, causes: &mut Vec<Cause>, e: &EntryRef<'
     match e {
         EntryRef::Go { t, l, stack } => Brief::Went {
             len: stack.len() as u8,
-            t: byte_of(*t),
-            l: byte_of_lock(*l),
+            t: byte_of(t.0),
+            l: byte_of(l.0),
             start: keep_stack(frames, stack),
         },
         EntryRef::Yield {
@@ -194,23 +186,23 @@ pub fn brief_of(frames: &mut Vec<Frame>, causes: &mut Vec<Cause>, e: &EntryRef<'
             births,
         } => Brief::Yielded {
             len: stack.len() as u8,
-            t: byte_of(*t),
-            l: byte_of_lock(*l),
+            t: byte_of(t.0),
+            l: byte_of(l.0),
             start: keep_stack(frames, stack),
             cause: keep_cause(causes, *sig, births),
         },
         EntryRef::Got { t, l } => Brief::Obtained {
-            t: byte_of(*t),
-            l: byte_of_lock(*l),
+            t: byte_of(t.0),
+            l: byte_of(l.0),
         },
         EntryRef::Free { t, l } => Brief::Freed {
-            t: byte_of(*t),
-            l: byte_of_lock(*l),
+            t: byte_of(t.0),
+            l: byte_of(l.0),
         },
         EntryRef::Took { t, l, stack } => Brief::Took {
             len: stack.len() as u8,
-            t: byte_of(*t),
-            l: byte_of_lock(*l),
+            t: byte_of(t.0),
+            l: byte_of(l.0),
             start: keep_stack(frames, stack),
         },
         EntryRef::MissBusy {
@@ -220,8 +212,8 @@ pub fn brief_of(frames: &mut Vec<Frame>, causes: &mut Vec<Cause>, e: &EntryRef<'
             holder,
         } => Brief::MissedBusy {
             len: stack.len() as u8,
-            t: byte_of(*t),
-            l: byte_of_lock(*l),
+            t: byte_of(t.0),
+            l: byte_of(l.0),
             start: keep_stack(frames, stack),
             holder: *holder,
         },
@@ -233,17 +225,17 @@ pub fn brief_of(frames: &mut Vec<Frame>, causes: &mut Vec<Cause>, e: &EntryRef<'
             births,
         } => Brief::MissedAvoid {
             len: stack.len() as u8,
-            t: byte_of(*t),
-            l: byte_of_lock(*l),
+            t: byte_of(t.0),
+            l: byte_of(l.0),
             start: keep_stack(frames, stack),
             cause: keep_cause(causes, *sig, births),
         },
         EntryRef::End { t, why } => Brief::Ended {
-            t: byte_of(*t),
+            t: byte_of(t.0),
             why: *why,
         },
         EntryRef::Break { set, t } => Brief::Broken {
-            t: byte_of(*t),
+            t: byte_of(t.0),
             set: *set,
         },
         EntryRef::Learn { births } => Brief::Learnt {
@@ -417,7 +409,7 @@ fn yielded_in_full(e: &Entry) -> Option<u32>
 
 /// Whether the thread and the lock of an entry have numbers below 256, where it has them.
 pub fn is_narrow(e: &EntryRef<'_>) -> bool
-    ensures { IsTrue result → IsInRange 256 256 (shown e.now) }
+    ensures { IsTrue result ↔ IsInRange 256 256 (shown e.now) }
 {
     match e {
         EntryRef::Go { t, l, .. }
