@@ -1,72 +1,34 @@
 -- The edges are taken in from the oldest on.
-use Rattle.std.proofs.Common.{◌≡◌, ℕ, ◌+◌, ◌<◌, ◌≤◌, Bool, true, false, ◌&&◌, refl, ap, sym, ◌∙◌, subst, inl, inr, ◌⊎◌, arith, List, [], ◌∷◌, ◌++◌, length}
-use Rattle.std.specs.Prelude.{Option, Some, None, if◌then◌else◌, IfSome, nat_le}
-use Rattle.std.proofs.lemmas.Bool.{cases_Bool, cases_lt, ltb-true, ltb-false, leb-true, leb-false}
+use Rattle.std.proofs.Common.{◌≡◌, ℕ, ◌+◌, ◌<◌, ◌≤◌, refl, ap, sym, ◌∙◌, subst, inl, inr, ◌⊎◌, arith, List, [], ◌∷◌, ◌++◌, length}
+use Rattle.std.specs.Prelude.{Option, Some, None, IfSome}
 use Rattle.std.proofs.lemmas.List.{append_assoc, append-nil, length-append}
 use Rattle.std.proofs.lemmas.Option.{same_Some}
 use Rattle.dim_rag.specs.declared.entry.Edge.{Edge}
 use Rattle.dim_rag.specs.declared.entry.Entry.{Entry}
-use Rattle.dim_base.specs.declared.Tid.{Tid}
-use Rattle.dim_rag.specs.History.{allow, hold}
 use Rattle.dim_rag.specs.Fits.{AreInRange}
-use Rattle.dim_rag.specs.Born.{In, AreByBirth, all_edges, IsEdge}
-use Rattle.dim_rag.proofs.Exports.{edges_law as law, hold_names, in_parts, in_right}
-use Rattle.dim_cover.specs.Oldest.{is_older, older, IsNoYounger, IsOldest}
-use Rattle.dim_cover.proofs.Ranges.{edge_range}
+use Rattle.dim_rag.specs.Born.{In, AreByBirth, all_edges}
+use Rattle.dim_rag.proofs.Exports.{edges_law as law, in_parts, in_right}
+use Rattle.dim_cover.specs.Oldest.{IsNoYounger, IsOldest}
+use Rattle.dim_cover.proofs.Seen.{IsSeen, SeesMore, seen_edge, all_seen}
 
-module _ (P Q : Edge → Type 0) (from : ℕ) (o : Option Edge) (k : IsOldest P from o) (wider : (x : Edge) → P x → Q x) where
-  -- the same edge stays the oldest
-  stays : ((x : Edge) → Q x → from ≤ x.birth → P x ⊎ IsNoYounger o x) → IsOldest Q from o
-  stays back = record {
-    own = λ e q. let w = k.own e q in (wider e w.0, w.1);
-    least = λ x q le. elim (back x q le) [ inl p ↦ k.least x p le | inr n ↦ n ];
+-- the oldest has the birth or a later one
+pub is_late : (P : Edge → Type 0) (from : ℕ) (o : Option Edge) → IsOldest P from o → IfSome o (λ e. from ≤ e.birth)
+is_late P from None k = tt
+is_late P from (Some e) k = (k.own e refl).1
+
+-- the oldest of two, of which one is the oldest of some
+module _ (P : Edge → Type 0) (from : ℕ) (o u r : Option Edge) (k : IsOldest P from o) (two : IsOldest (λ x. (o ≡ Some x) ⊎ (u ≡ Some x)) from r) where
+  no_younger : (x : Edge) → IsNoYounger o x → IsNoYounger r x
+  no_younger x n =
+      let w = two.least n.0 (inl n.1) (k.own n.0 n.1).1 in
+      let le : w.0.birth ≤ n.0.birth = w.2 in (w.0, w.1, omega (arith, le, n.2))
+
+  -- it is the oldest of those and of the other
+  pub one_more : (Q : Edge → Type 0) → ((x : Edge) → P x → Q x) → ((x : Edge) → Q x → P x ⊎ (u ≡ Some x)) → ((x : Edge) → u ≡ Some x → Q x) → IsOldest Q from r
+  one_more Q wider back new = record {
+    own = λ e q. let w = two.own e q in (elim w.0 [ inl i ↦ wider e (k.own e i).0 | inr i ↦ new e i ], w.1);
+    least = λ x q le. elim (back x q) [ inl p ↦ no_younger x (k.least x p le) | inr i ↦ two.least x (inr i) le ];
   }
-
-  -- another one is the oldest now
-  new_oldest : (e : Edge) → Q e → from ≤ e.birth → ((x : Edge) → Q x → P x ⊎ (e ≡ x)) → ((y : Edge) → o ≡ Some y → e.birth ≤ y.birth) → IsOldest Q from (Some e)
-  new_oldest e own high back low = record {
-    own = λ x q. subst (λ (z : Edge). Q z × (from ≤ z.birth)) (same_Some e x q) (own, high);
-    least = λ x q le. elim (back x q) [
-      | inl p ↦ let w = k.least x p le in let under : e.birth ≤ w.0.birth = low w.0 w.1 in (e, refl, omega (arith, under, w.2))
-      | inr n ↦ let same : e.birth ≡ x.birth = ap (λ (z : Edge). z.birth) n in (e, refl, omega (arith, same))
-    ];
-  }
-
--- an edge is as old as the oldest, or older
-not_older : (o : Option Edge) (e : Edge) → is_older e o ≡ true → (y : Edge) → o ≡ Some y → e.birth ≤ y.birth
-not_older None e b y q = absurd (let n : None ≡ Some y = q in cc)
-not_older (Some z) e b y q = let lt : e.birth < z.birth = ltb-true e.birth z.birth b in let same : z.birth ≡ y.birth = ap (λ (w : Edge). w.birth) (same_Some z y q) in omega (arith, lt, same)
-
-older_there : (o : Option Edge) (e : Edge) → is_older e o ≡ false → IsNoYounger o e
-older_there None e b = absurd (let n : true ≡ false = b in cc)
-older_there (Some z) e b = (z, refl, ltb-false e.birth z.birth b)
-
--- one more is seen
-pub more : (P Q : Edge → Type 0) (from : ℕ) (o u : Option Edge) → IsOldest P from o → ((x : Edge) → P x → Q x) → ((x : Edge) → Q x → P x ⊎ (u ≡ Some x)) → ((x : Edge) → u ≡ Some x → Q x) → IsOldest Q from (older from o u)
-more P Q from o None k wider back new = stays P Q from o k wider (λ x q le. elim (back x q) [ inl p ↦ inl p | inr n ↦ absurd (let z : None ≡ Some x = n in cc) ])
-more P Q from o (Some e) k wider back new = elim (cases_Bool (nat_le from e.birth)) [
-  | inl high ↦
-      subst (λ (b : Bool). IsOldest Q from (if b && is_older e o then Some e else o)) (sym high)
-      (elim (cases_Bool (is_older e o)) [
-        | inl b ↦
-            subst (λ (b : Bool). IsOldest Q from (if b then Some e else o)) (sym b)
-            (new_oldest P Q from o k wider e (new e refl) (leb-true from e.birth high) (λ x q. elim (back x q) [ inl p ↦ inl p | inr n ↦ inr (same_Some e x n) ]) (not_older o e b))
-        | inr b ↦
-            subst (λ (b : Bool). IsOldest Q from (if b then Some e else o)) (sym b)
-            (stays P Q from o k wider (λ x q le. elim (back x q) [ inl p ↦ inl p | inr n ↦ inr (subst (λ (z : Edge). IsNoYounger o z) (same_Some e x n) (older_there o e b)) ]))
-      ])
-  | inr low ↦
-      let under : e.birth < from = leb-false from e.birth low in
-      subst (λ (b : Bool). IsOldest Q from (if b && is_older e o then Some e else o)) (sym low)
-      (stays P Q from o k wider (λ x q le. elim (back x q) [
-        | inl p ↦ inl p
-        | inr n ↦ let same : e.birth ≡ x.birth = ap (λ (z : Edge). z.birth) (same_Some e x n) in absurd (omega (arith, under, le, same))
-      ]))
-]
-
--- an edge of one of the first t threads that allows, or on one of the first l locks that holds
-abbrev pub IsSeen : List Entry → ℕ → ℕ → Edge → Type 0
-IsSeen h t l x = ((allow x.t.0 x.l.0 h ≡ Some x) × (x.t.0 < t)) ⊎ ((hold x.t.0 x.l.0 h ≡ Some x) × (x.l.0 < l))
 
 pub none_seen : (h : List Entry) (from : ℕ) → IsOldest (IsSeen h 0 0) from None
 none_seen h from = record {
@@ -74,55 +36,16 @@ none_seen h from = record {
   least = λ x s le. absurd (elim s [ inl a ↦ (let lt : x.t.0 < 0 = a.1 in omega (arith, lt)) | inr a ↦ (let lt : x.l.0 < 0 = a.1 in omega (arith, lt)) ]);
 }
 
--- the next thread is seen
-pub thread_seen : (h : List Entry) (t from : ℕ) (o u : Option Edge) → IsOldest (IsSeen h t 0) from o → IfSome u (λ e. (e.t ≡ record { 0 = t }) × (allow t e.l.0 h ≡ Some e)) → ((m : ℕ) (x : Edge) → allow t m h ≡ Some x → u ≡ Some x)
-    → IsOldest (IsSeen h (t + 1) 0) from (older from o u)
-thread_seen h t from o u k some each = more (IsSeen h t 0) (IsSeen h (t + 1) 0) from o u k
-    (λ x r. elim r [ inl a ↦ inl (a.0, (let lt : x.t.0 < t = a.1 in omega (arith, lt))) | inr a ↦ inr a ])
-    (λ x r. elim r [
-      | inl a ↦ elim (cases_lt x.t.0 t) [
-        | inl lt ↦ inl (inl (a.0, lt))
-        | inr le ↦ let e : x.t.0 ≡ t = (let lt : x.t.0 < t + 1 = a.1 in omega (arith, lt, le)) in inr (each x.l.0 x (subst (λ (y : ℕ). allow y x.l.0 h ≡ Some x) e a.0))
-      ]
-      | inr a ↦ inl (inr a)
-    ])
-    (λ x q. new u some x q)
-  where
-    new : (u : Option Edge) → IfSome u (λ e. (e.t ≡ record { 0 = t }) × (allow t e.l.0 h ≡ Some e)) → (x : Edge) → u ≡ Some x → IsSeen h (t + 1) 0 x
-    new None i x q = absurd (let n : None ≡ Some x = q in cc)
-    new (Some e) i x q =
-        let num : e.t.0 ≡ t = ap (λ (y : Tid). y.0) i.0 in
-        subst (λ (z : Edge). IsSeen h (t + 1) 0 z) (same_Some e x q) (inl (subst (λ (y : ℕ). allow y e.l.0 h ≡ Some e) (sym num) i.1, omega (arith, num)))
-
--- the next lock is seen
-pub lock_seen : (h : List Entry) (n l from : ℕ) (o u : Option Edge) → IsOldest (IsSeen h n l) from o → IfSome u (λ e. hold e.t.0 l h ≡ Some e) → ((t : ℕ) (x : Edge) → hold t l h ≡ Some x → u ≡ Some x)
-    → IsOldest (IsSeen h n (l + 1)) from (older from o u)
-lock_seen h n l from o u k some each = more (IsSeen h n l) (IsSeen h n (l + 1)) from o u k
-    (λ x r. elim r [ inl a ↦ inl a | inr a ↦ inr (a.0, (let lt : x.l.0 < l = a.1 in omega (arith, lt))) ])
-    (λ x r. elim r [
-      | inl a ↦ inl (inl a)
-      | inr a ↦ elim (cases_lt x.l.0 l) [
-        | inl lt ↦ inl (inr (a.0, lt))
-        | inr le ↦ let e : x.l.0 ≡ l = (let lt : x.l.0 < l + 1 = a.1 in omega (arith, lt, le)) in inr (each x.t.0 x (subst (λ (y : ℕ). hold x.t.0 y h ≡ Some x) e a.0))
-      ]
-    ])
-    (λ x q. new u some x q)
-  where
-    new : (u : Option Edge) → IfSome u (λ e. hold e.t.0 l h ≡ Some e) → (x : Edge) → u ≡ Some x → IsSeen h n (l + 1) x
-    new None i x q = absurd (let z : None ≡ Some x = q in cc)
-    new (Some e) i x q =
-        let num : e.l.0 ≡ l = (hold_names e.t.0 l e h i).1 in
-        subst (λ (z : Edge). IsSeen h n (l + 1) z) (same_Some e x q) (inr (subst (λ (y : ℕ). hold e.t.0 y h ≡ Some e) (sym num) i, omega (arith, num)))
+-- one more is seen
+pub sees_more : (h : List Entry) (t l v m from : ℕ) (o u r : Option Edge) → SeesMore h t l v m u → IsOldest (IsSeen h t l) from o → IsOldest (λ x. (o ≡ Some x) ⊎ (u ≡ Some x)) from r → IsOldest (IsSeen h v m) from r
+sees_more h t l v m from o u r s k two = one_more (IsSeen h t l) from o u r k two (IsSeen h v m) s.wider s.back (λ x i. (s.new x i).0)
 
 -- all are seen
-pub all_seen : (n m : ℕ) (h : List Entry) (from : ℕ) (o : Option Edge) → AreInRange n m h → IsOldest (IsSeen h n m) from o → IsOldest (λ e. In e (all_edges h)) from o
-all_seen n m h from o r k = record {
-  own = λ e q. let w = k.own e q in (law.each h e (elim w.0 [ inl a ↦ inl a.0 | inr a ↦ inr a.0 ]), w.1);
-  least = λ x i le. k.least x (seen x i) le;
+pub oldest_of_all : (n m : ℕ) (h : List Entry) (from : ℕ) (o : Option Edge) → AreInRange n m h → IsOldest (IsSeen h n m) from o → IsOldest (λ e. In e (all_edges h)) from o
+oldest_of_all n m h from o r k = record {
+  own = λ e q. let w = k.own e q in (law.each h e (seen_edge h n m e w.0), w.1);
+  least = λ x i le. k.least x (all_seen n m h r x i) le;
 }
-  where
-    seen : (x : Edge) → In x (all_edges h) → IsSeen h n m x
-    seen x i = let e : IsEdge h x = law.only h x i in let b = edge_range n m x h r e in elim e [ inl a ↦ inl (a, b.0) | inr a ↦ inr (a, b.1) ]
 
 -- these are the edges that were born before a birth: with the rest they are all
 pub record IsCaught (all es : List Edge) (from : ℕ) : Type 0 where

@@ -1,8 +1,9 @@
 //! The edges that stand in a graph, for an index that has none yet.
-ghost use Rattle.std.specs.Prelude.{◌≡◌, ◌+◌, []};
+ghost use Rattle.std.specs.Prelude.{◌≡◌, ◌+◌, ◌<◌, ◌≤◌, ◌⊎◌, [], true, false, Some, IfSome};
 ghost use Rattle.dim_rag.specs.History.{past};
+ghost use Rattle.dim_rag.specs.declared.entry.Edge.{Edge};
 ghost use Rattle.dim_rag.specs.Born.{In, all_edges};
-ghost use Rattle.dim_cover.specs.Oldest.{IsOldest, is_older, older};
+ghost use Rattle.dim_cover.specs.Oldest.{IsNoYounger, IsOldest};
 
 use crate::index::Index;
 use dim_base::{Lid, Tid};
@@ -42,10 +43,11 @@ fn oldest_from(graph: &Graph, from: u32) -> Option<Edge>
     oldest
 }
 
-/// Makes of the oldest edge so far the older one of it and another, where that has a birth or a
-/// later one.
+/// Makes of the oldest edge so far, which has a birth or a later one, the oldest of it and another,
+/// of those that have that birth or a later one.
 fn keep_older(oldest: &mut Option<Edge>, edge: &Option<Edge>, from: u32)
-    ensures { oldest.new ≡ older from oldest.old edge.now }
+    requires { IfSome oldest.old (λ e. from ≤ e.birth) }
+    ensures { IsOldest (λ x. (oldest.old ≡ Some x) ⊎ (edge.now ≡ Some x)) from oldest.new }
 {
     if let Some(e) = edge {
         if from <= e.birth && is_older(e, oldest) {
@@ -56,7 +58,9 @@ fn keep_older(oldest: &mut Option<Edge>, edge: &Option<Edge>, from: u32)
 
 /// Whether an edge is older than another, or there is no other.
 fn is_older(edge: &Edge, other: &Option<Edge>) -> bool
-    ensures { result ≡ is_older edge.now other.now }
+    ensures older { result ≡ true
+        → (o : Edge) → other.now ≡ Some o → edge.now.birth < o.birth }
+    ensures younger { result ≡ false → IsNoYounger other.now edge.now }
 {
     match other {
         Some(o) => edge.birth < o.birth,

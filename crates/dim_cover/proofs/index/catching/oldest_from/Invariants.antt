@@ -1,6 +1,6 @@
 use Rattle.dim_rag.specs.History.{past}
 use Rattle.dim_cover.specs.Oldest.{IsOldest}
-use Rattle.dim_cover.proofs.Oldest.{IsSeen}
+use Rattle.dim_cover.proofs.Seen.{IsSeen}
 use Rattle.dim_cover.proofs.index.catching.oldest_from.Given as goal
 
 -- the oldest of the allow edges of the threads so far
