@@ -21,4 +21,4 @@ pub use laws::{first_fault_law, length_law, reading_law, spelling_law};
 pub use reading::read;
 pub use recent::Recent;
 pub use renaming::{rename, rename_into};
-pub use writing::{put_stack, write};
+pub use writing::{put_signature, put_stack, write};

@@ -43,8 +43,8 @@ pub fn put_stack(text: &mut String, names: &Names, stack: &Stack) -> Result<(), 
     text.push('\n')
 }
 
-// Appends the lines of a signature.
-fn put_signature(text: &mut String, names: &Names, sig: &Signature) -> Result<(), AllocError>
+/// Appends the lines of a signature, in version 2. Each of its functions has to stand in the table.
+pub fn put_signature(text: &mut String, names: &Names, sig: &Signature) -> Result<(), AllocError>
     requires { All (IsNamedBy names.now) sig.now.stacks }
     ensures sized { OnOk result (All IsSized sig.now.stacks) }
     ensures lines { OnOk result

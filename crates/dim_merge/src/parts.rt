@@ -10,7 +10,7 @@ ghost use Rattle.dim_merge.specs.Parts.{sigs_of};
 use crate::parted::{Both, Parts};
 use dim_base::OutOfMemory;
 use dim_history_file::{History, rename};
-use dim_signature::{Add, Catalogue, Signature, number_law};
+use dim_signature::{Catalogue, Signature, number_law};
 use dim_stack::{Names, Stack, merged_law};
 use std::alloc::Global;
 
@@ -49,19 +49,6 @@ fn add_yields(catalogue: &mut Catalogue, others: &Catalogue)
     }
 }
 
-// Adds a signature to fewer than 4,096 others, none of which has its stacks.
-fn add(alloc: Global, catalogue: &mut Catalogue, sig: &Signature) -> Result<(), OutOfMemory>
-    requires few { length catalogue.old.sigs < 4096 }
-    requires new { signature_number catalogue.old.sigs sig.now.stacks ≡ None }
-    ensures { OnOk result (catalogue.new.sigs ≡ catalogue.old.sigs ++ sig.now ∷ []) }
-{
-    match catalogue.add(sig.copy(alloc)?) {
-        Ok(_) => Ok(()),
-        Err(Add::OutOfMemory) => Err(OutOfMemory),
-        Err(Add::Known { .. } | Add::Full) => unreachable!(),
-    }
-}
-
 // Adds a signature where no known one has its stacks.
 fn add_unknown(
     alloc: Global,
@@ -76,7 +63,7 @@ fn add_unknown(
 {
     match known.find(sig.as_slice()) {
         Some(_) => Ok(()),
-        None => add(alloc, unknown, sig),
+        None => unknown.add_new(alloc, sig),
     }
 }
 
@@ -142,7 +129,7 @@ fn add_all(alloc: Global, catalogue: &mut Catalogue, others: &Catalogue) -> Resu
     ensures { OnOk result (catalogue.new.sigs ≡ catalogue.old.sigs ++ others.now.sigs) }
 {
     for i in 0..others.len() {
-        add(alloc, catalogue, others.get(i))?;
+        catalogue.add_new(alloc, others.get(i))?;
     }
     Ok(())
 }

@@ -16,7 +16,6 @@ mod Nesting
 mod Listing
 mod Cycling
 mod Guarding
-mod Spelled
 mod AddedTo
 mod Different
 mod Stacks

@@ -9,12 +9,10 @@ ghost use Rattle.std.specs.String.{string_bytes};
 ghost use Rattle.dim_predict.specs.Adopted.{AreDifferent, adopted};
 
 use dim_base::OutOfMemory;
-use dim_history_file::{History, put_stack, write};
-use dim_signature::{Add, Catalogue, Signature};
+use dim_history_file::{History, put_signature, write};
+use dim_signature::Signature;
 use dim_stack::Names;
-use dim_text::state_word;
-use std::alloc::{AllocError, Global};
-use std::fmt::Write;
+use std::alloc::Global;
 
 /// How many signatures a history has at most that a command can load, and how many bytes its text.
 pub const MOST_SIGNATURES: u32 = 4080;
@@ -27,23 +25,6 @@ fn end_bytes(alloc: Global, count: u32) -> Result<usize, OutOfMemory>
 {
     let text = format!(in alloc; "end {count}\n")?;
     Ok(text.len())
-}
-
-/// Appends the lines of a signature, each of whose functions stands in the table.
-fn put_signature(text: &mut String, names: &Names, sig: &Signature) -> Result<(), AllocError>
-    requires { All (IsNamedBy names.now) sig.now.stacks }
-    ensures { OnOk result (string_bytes text.new
-        ≡ string_bytes text.old ++ text_of (sig_lines Two (named_sig names.now sig.now))) }
-{
-    let depth = sig.depth();
-    let count = sig.len();
-    let state = state_word(sig.on());
-    let yields = sig.yields();
-    writeln!(text, "signature {depth} {count} {state} {yields}")?;
-    for stack in sig.as_slice() {
-        put_stack(text, names, stack)?;
-    }
-    Ok(())
 }
 
 /// How many bytes the lines of a signature take, each of whose functions stands in the table.
@@ -65,19 +46,6 @@ fn bytes_before_end(alloc: Global, history: &History) -> Result<usize, OutOfMemo
     let text = write(alloc, history)?;
     let end = end_bytes(alloc, history.catalogue.len())?;
     Ok(text.as_slice().len() - end)
-}
-
-/// Adds a signature to fewer than 4,096 others, none of which has its stacks.
-fn add(alloc: Global, catalogue: &mut Catalogue, sig: &Signature) -> Result<(), OutOfMemory>
-    requires few { length catalogue.old.sigs < 4096 }
-    requires new { signature_number catalogue.old.sigs sig.now.stacks ≡ None }
-    ensures { OnOk result (catalogue.new.sigs ≡ catalogue.old.sigs ++ sig.now ∷ []) }
-{
-    match catalogue.add(sig.copy(alloc)?) {
-        Ok(_) => Ok(()),
-        Err(Add::OutOfMemory) => Err(OutOfMemory),
-        Err(Add::Known { .. } | Add::Full) => unreachable!(),
-    }
 }
 
 /// The history with signatures added, in order, while it has fewer than 4,080 and its text, in
@@ -113,7 +81,7 @@ pub fn adopt(
         if count >= MOST_SIGNATURES || all > MOST_BYTES {
             break;
         }
-        add(alloc, &mut catalogue, sig)?;
+        catalogue.add_new(alloc, sig)?;
         bytes = more;
         added += 1;
     }

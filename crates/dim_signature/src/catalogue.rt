@@ -122,6 +122,20 @@ impl Catalogue {
         }
     }
 
+    /// Appends a copy of a signature whose stacks none has, where there are fewer than 4,096.
+    pub fn add_new(&mut self, alloc: Global, sig: &Signature) -> Result<(), OutOfMemory>
+        requires few { length self.old.sigs < 4096 }
+        requires new { signature_number self.old.sigs sig.now.stacks ≡ None }
+        ensures added { OnOk result (self.new.sigs ≡ self.old.sigs ++ sig.now ∷ []) }
+        ensures err { OnErr result (self.new ≡ self.old) }
+    {
+        match self.add(sig.copy(alloc)?) {
+            Ok(_) => Ok(()),
+            Err(Add::OutOfMemory) => Err(OutOfMemory),
+            Err(Add::Known { .. } | Add::Full) => unreachable!(),
+        }
+    }
+
     /// Makes room for this many signatures to be learnt. Where memory runs out, there may be more
     /// room than before.
     pub fn reserve(&mut self, places: u32) -> Result<(), OutOfMemory>

@@ -5,8 +5,8 @@ use Rattle.dim_history_file.proofs.Sound.{take_one_more}
 use Rattle.dim_merge.proofs.Different.{next_new}
 use Rattle.dim_merge.proofs.parts.add_all.Goals as goal
 
-pub add-requires-clause-new : goal.add-requires-clause-new
-add-requires-clause-new c =
+pub add_new-requires-clause-new : goal.add_new-requires-clause-new
+add_new-requires-clause-new c =
     let s = c.get.result.now in
     subst (λ (ss : List Sig). signature_number ss s.stacks ≡ None) (sym c.loop-i.invariant)
     (next_new c.args.catalogue.now.sigs c.args.others.now.sigs c.loop-i.i s c.get.ensures.value c.requires.different)
@@ -17,7 +17,7 @@ loop-i-preserved c =
     let others = c.args.others.now.sigs in
     let i = c.loop-i.i in
     let s = c.get.result.now in
-    c.in_ok-add.ensures
+    c.in_ok-add_new.ensures.added
     ∙ ap (λ (ss : List Sig). ss ++ s ∷ []) c.loop-i.invariant
     ∙ append_assoc old (take i others) (s ∷ [])
     ∙ ap (λ (ss : List Sig). old ++ ss) (sym (take_one_more others i s c.get.ensures.value))

@@ -19,4 +19,4 @@ returns-in-None c =
     let s = c.args.sig.now in
     let old = c.args.unknown.now.sigs in
     let e = sym (ap (signature_number known) c.as_slice.ensures.stacks) ∙ sym c.find.ensures ∙ c.in-None.is in
-    subst (λ (xs : List Sig). OnOk c.add.result (c.add.new.catalogue.sigs ≡ old ++ xs)) (sym (new_one known s e)) c.add.ensures
+    subst (λ (xs : List Sig). OnOk c.add_new.result (c.add_new.new.self.sigs ≡ old ++ xs)) (sym (new_one known s e)) c.add_new.ensures.added
