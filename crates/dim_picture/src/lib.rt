@@ -11,7 +11,6 @@ mod laws;
 mod line;
 mod mark;
 mod marking;
-mod outcome;
 mod page;
 mod picturing;
 mod references;

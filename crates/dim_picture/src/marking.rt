@@ -7,11 +7,10 @@ ghost use Rattle.dim_picture.specs.Marks.{marks};
 ghost use Rattle.dim_picture.specs.Told.{AreTold};
 
 use crate::mark::{Mark, mark_of};
-use crate::outcome::outcome_of;
 use dim_asm::Program;
 use dim_base::OutOfMemory;
 use dim_rag::Graph;
-use dim_run::Outcome;
+use dim_run::{Outcome, outcome_of};
 use dim_trace::KeptTrace;
 use std::alloc::Global;
 
