@@ -4,7 +4,7 @@ use Rattle.dim_base.specs.Files.{Named}
 use Rattle.dim_inquiry.specs.declared.report.Report.{Report}
 use Rattle.dim_inquiry.specs.declared.stop.Refusal.TheVariants as refusals
 use Rattle.dim_inquiry.specs.declared.stop.Stop.{Stop}
-use Rattle.dim_inquiry.specs.Course.{Course, wants, ◌>>=◌}
+use Rattle.dim_inquiry.specs.Course.{wants, ◌>>=◌}
 use Rattle.dim_words.specs.Words.{Asked, Run, Live, Immunize, Check, Why, Depths, Predict, Show, Generate, Switch, command_of}
 use Rattle.dim_cli.specs.Quiet.{quiet_command, unless_live}
 use Rattle.dim_cli.specs.Courses.{course, course_of}

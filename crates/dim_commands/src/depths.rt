@@ -1,5 +1,5 @@
 //! `depths`, up to its report.
-ghost use Rattle.std.specs.Prelude.{◌≡◌, ◌≤◌, length, IfOk, OnOk};
+ghost use Rattle.std.specs.Prelude.{◌≡◌, IfOk, OnOk};
 ghost use Rattle.dim_execution.specs.Start.{gate_of};
 ghost use Rattle.dim_rag.specs.History.{past};
 ghost use Rattle.dim_trace.specs.Grammar.{IsTrace};

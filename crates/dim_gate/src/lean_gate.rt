@@ -1,5 +1,5 @@
 //! A gate that keeps no entry.
-ghost use Rattle.std.specs.Prelude.{◌≡◌, ◌+◌, ◌≤◌, ◌<◌, ◌^◌, ◌↔◌, [], length, max, is_some, IfOk, IsTrue, None, Some};
+ghost use Rattle.std.specs.Prelude.{◌≡◌, ◌+◌, ◌≤◌, ◌<◌, ◌^◌, ◌↔◌, length, max, is_some, IfOk, IsTrue, None, Some};
 ghost use Rattle.dim_rag.specs.History.{past};
 ghost use Rattle.dim_rag.specs.Made.{entry_by};
 ghost use Rattle.dim_rag.specs.Shown.{HasStack, shown};

@@ -1,5 +1,5 @@
 //! The stacks of a signature that is learnt.
-ghost use Rattle.std.specs.Prelude.{◌≡◌, ◌<◌, ◌≤◌, length, IsSome, None};
+ghost use Rattle.std.specs.Prelude.{◌≡◌, ◌≤◌, length, IsSome, None};
 ghost use Rattle.dim_rag.specs.History.{past};
 ghost use Rattle.dim_rag.specs.Born.{edge_born};
 ghost use Rattle.dim_signature.specs.Sorted.{AreSorted};

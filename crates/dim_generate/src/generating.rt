@@ -9,7 +9,7 @@ ghost use Rattle.dim_asm.specs.Printing.{program_text, thread_line};
 ghost use Rattle.dim_asm.specs.Source.{LockLine, FuncLine, OpLine, ThreadLine};
 ghost use Rattle.dim_asm.specs.Spelling.{function_lines, source_text, spelled, text_of};
 ghost use Rattle.dim_schedule.specs.Drawn.{word, after, generator};
-ghost use Rattle.dim_generate.specs.Generated.{from, numbered, lock_name, generated_program, generated_text};
+ghost use Rattle.dim_generate.specs.Generated.{from, numbered, lock_name, generated_program};
 ghost use Rattle.dim_generate.specs.Drafted.{called, taker_draft, caller_draft, taker_of, caller_of, started, generated_source};
 
 use dim_base::{Bytes, OutOfMemory};

@@ -1,5 +1,5 @@
 //! `predict`, up to its report.
-ghost use Rattle.std.specs.Prelude.{◌≡◌, ◌≤◌, length, Some, IfOk, OnOk};
+ghost use Rattle.std.specs.Prelude.{◌≤◌, Some, IfOk, OnOk};
 ghost use Rattle.dim_base.specs.Files.{Named};
 ghost use Rattle.dim_history_file.specs.Grammar.{AreNear};
 ghost use Rattle.dim_trace.specs.Grammar.{IsTrace};

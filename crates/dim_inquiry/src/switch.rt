@@ -1,5 +1,5 @@
 //! `switch`, up to its report.
-ghost use Rattle.std.specs.Prelude.{◌≡◌, ◌<◌, length, Some, OnOk};
+ghost use Rattle.std.specs.Prelude.{◌<◌, length, Some, OnOk};
 ghost use Rattle.dim_base.specs.Files.{Named};
 ghost use Rattle.dim_history_file.specs.Seen.{value_of};
 ghost use Rattle.dim_words.specs.Commands.{switch_words};

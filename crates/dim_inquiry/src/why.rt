@@ -1,5 +1,5 @@
 //! `why`, up to its report.
-ghost use Rattle.std.specs.Prelude.{◌≡◌, ◌≤◌, length, IfOk};
+ghost use Rattle.std.specs.Prelude.{◌≡◌, IfOk};
 ghost use Rattle.dim_trace.specs.Grammar.{IsTrace};
 ghost use Rattle.dim_words.specs.Commands.{check_words};
 ghost use Rattle.dim_inquiry.specs.Course.{WhereTold, StopCause, Runs, HasWords};

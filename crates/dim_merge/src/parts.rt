@@ -1,6 +1,6 @@
 //! What a merged history is made of: what the first knows, and what the second adds.
 ghost use Rattle.std.specs.Prelude.{◌≡◌, ◌+◌, ◌++◌, ◌∷◌, [], ◌<◌, ◌≤◌, ◌^◌, IfOk, OnOk, None, length, map};
-ghost use Rattle.dim_stack.specs.Names.{HasNames, table_of};
+ghost use Rattle.dim_stack.specs.Names.{table_of};
 ghost use Rattle.dim_signature.specs.Catalogue.{signature_number};
 ghost use Rattle.dim_history_file.specs.Seen.{value_of};
 ghost use Rattle.dim_merge.specs.Merging.{merged};

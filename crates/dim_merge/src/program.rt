@@ -8,7 +8,6 @@ ghost use Rattle.dim_merge.specs.Files.{StopCause, WhereTold};
 ghost use Rattle.dim_merge.specs.Made.{made_of};
 ghost use Rattle.dim_merge.specs.Sources.{texts_of};
 ghost use Rattle.dim_merge.specs.Stops.{IsNoFault, refusal_of};
-ghost use Rattle.dim_merge.specs.Words.{words_of};
 
 use crate::lines::{put_report, put_stop};
 use crate::making::{Made, make};

@@ -1,5 +1,5 @@
 //! A caller of a domain.
-ghost use Rattle.std.specs.Prelude.{◌≡◌, ◌+◌, ◌<◌, ◌≤◌, [], nat_le, Option, Some, None, IfNone, IfSome, IsNone};
+ghost use Rattle.std.specs.Prelude.{◌≡◌, ◌+◌, ◌<◌, ◌≤◌, [], nat_le, Option, Some, None, IfNone, IsNone};
 ghost use Rattle.dim_rag.specs.declared.entry.Mode.TheVariants.{Running};
 ghost use Rattle.dim_turn.specs.Passes.{seen_of};
 ghost use Rattle.dim_run.specs.Gates.{known};

@@ -1,9 +1,9 @@
 //! Which threads can be one behind the other.
-ghost use Rattle.std.specs.Prelude.{◌≡◌, ℕ, ◌==◌, ◌||◌, ◌+◌, ◌^◌, ◌<◌, ◌≤◌, ◌++◌, ◌∷◌, if◌then◌else◌, false, true, List, Some, All, Contains, IfOk, IfSome, OnOk, length, map, slice_get, slice_index, slice_index_or, slice_set, []};
+ghost use Rattle.std.specs.Prelude.{◌≡◌, ℕ, ◌==◌, ◌||◌, ◌+◌, ◌^◌, ◌<◌, ◌++◌, ◌∷◌, if◌then◌else◌, false, List, Some, All, Contains, IfOk, IfSome, OnOk, length, map, slice_get, slice_set, []};
 ghost use Rattle.dim_log.specs.declared.log.Event.{Event};
 ghost use Rattle.dim_log.specs.declared.log.Event.TheVariants as event;
 ghost use Rattle.dim_orders.specs.Lines.{AreOnce, IsLine};
-ghost use Rattle.dim_orders.specs.Own.{IsWithin, doer, row};
+ghost use Rattle.dim_orders.specs.Own.{IsWithin, row};
 ghost use Rattle.dim_orders.specs.Placing.{AreLasts, ArePlaced, EndsWith, is_placed};
 
 use crate::own::{add, pop, rows, thread_of};

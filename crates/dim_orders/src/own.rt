@@ -1,7 +1,7 @@
 //! From a log to the operations of each thread.
 ghost use Rattle.std.specs.Prelude.{◌≡◌, ◌≢◌, ℕ, ◌==◌, ◌<◌, if◌then◌else◌, [], ◌∷◌, ◌++◌, All, IfOk, OnOk, length, map, slice_set};
 ghost use Rattle.std.specs.Option.{option_to_list};
-ghost use Rattle.dim_orders.specs.Own.{deed_of, doer, IsWithin, own, own_of, row};
+ghost use Rattle.dim_orders.specs.Own.{deed_of, doer, IsWithin, own, row};
 
 use crate::kept::{Deed, Operation};
 use dim_base::OutOfMemory;

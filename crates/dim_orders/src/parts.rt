@@ -1,8 +1,7 @@
 //! Parts of locks, of which no order goes up.
 ghost use Rattle.std.specs.Prelude.{◌≡◌, ◌==◌, true, All, IfOk};
 ghost use Rattle.std.specs.List.{list_all};
-ghost use Rattle.dim_orders.specs.Holding.{held_from};
-ghost use Rattle.dim_orders.specs.Nestings.{are_down, asked, crosses, is_down, nesting, part};
+ghost use Rattle.dim_orders.specs.Nestings.{are_down, asked, crosses, is_down, nesting};
 
 use crate::components::{at, components};
 use crate::hold::{Hold, act};

@@ -1,6 +1,6 @@
 -- The shapes of entries, by places.
 use Rattle.std.proofs.Common.{◌≡◌, ℕ, zero, suc, ◌+◌, ◌-◌, ◌<◌, ◌≤◌, refl, ap, sym, ◌∙◌, subst, arith, true, false, inl, inr, List, [], ◌∷◌, ◌++◌, length, drop, reverse, append_assoc, append-nil}
-use Rattle.std.specs.Prelude.{Option, Some, slice_get, unwrap_or}
+use Rattle.std.specs.Prelude.{Some, slice_get, unwrap_or}
 use Rattle.std.proofs.lemmas.Bool.{cases_Bool}
 use Rattle.std.proofs.lemmas.List.{length-reverse, length_push}
 use Rattle.std.proofs.lemmas.Option.{slice_get_within}

@@ -1,7 +1,7 @@
 //! The text of a picture.
 ghost use Rattle.std.specs.Prelude.{◌≡◌, ◌++◌, IfOk, OnOk, length, slice_get, codes};
 ghost use Rattle.std.specs.String.{string_bytes};
-ghost use Rattle.dim_picture.specs.Page.{colour_of, group, drawn, shown, mark_by, marks, front, back, picture_in, picture_text};
+ghost use Rattle.dim_picture.specs.Page.{colour_of, group, drawn, shown, mark_by, front, back, picture_in, picture_text};
 
 use crate::drawing::put_figure;
 use crate::frame::Frame;

@@ -1,9 +1,9 @@
 //! What is drawn of the births that a Yield or a Learn names.
-ghost use Rattle.std.specs.Prelude.{◌≡◌, ◌<◌, ◌^◌, ◌++◌, IfSome, OnOk, slice_get};
+ghost use Rattle.std.specs.Prelude.{◌≡◌, ◌<◌, ◌^◌, ◌++◌, OnOk, slice_get};
 ghost use Rattle.std.specs.List.{flat_map};
 ghost use Rattle.std.specs.String.{string_bytes};
 ghost use Rattle.dim_picture.specs.Figures.{middle, middle_by, link_to, ring_at, link, ring, references_by};
-ghost use Rattle.dim_picture.specs.Frames.{x_of, y_of};
+ghost use Rattle.dim_picture.specs.Frames.{x_of};
 
 use crate::frame::Frame;
 use crate::rows::{Seat, seat_of};

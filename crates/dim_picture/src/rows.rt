@@ -1,5 +1,5 @@
 //! The rows of the lanes.
-ghost use Rattle.std.specs.Prelude.{◌≡◌, ◌+◌, ◌<◌, ◌≤◌, ◌^◌, IfOk, OnOk, length};
+ghost use Rattle.std.specs.Prelude.{◌≡◌, ◌+◌, ◌<◌, ◌^◌, IfOk, OnOk, length};
 ghost use Rattle.dim_picture.specs.Shapes.{seat_of, first_free, with_taken};
 
 use crate::mark::Mark;

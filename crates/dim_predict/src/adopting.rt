@@ -1,11 +1,9 @@
 //! A history with candidates.
-ghost use Rattle.std.specs.Prelude.{◌≡◌, ◌+◌, ◌∷◌, ◌++◌, [], ◌<◌, All, None, IfOk, OnOk, length};
+ghost use Rattle.std.specs.Prelude.{◌≡◌, ◌+◌, ◌∷◌, ◌++◌, [], ◌<◌, All, IfOk, length};
 ghost use Rattle.dim_stack.specs.Names.{IsNamedBy};
-ghost use Rattle.dim_signature.specs.Catalogue.{signature_number};
 ghost use Rattle.dim_history_file.specs.Spelling.{lines_before_end, sig_lines, text_of, EndLine};
 ghost use Rattle.dim_history_file.specs.declared.version.Version.TheVariants.{Two};
 ghost use Rattle.dim_history_file.specs.Value.{AreNamed, named, named_sig};
-ghost use Rattle.std.specs.String.{string_bytes};
 ghost use Rattle.dim_predict.specs.Adopted.{AreDifferent, adopted};
 
 use dim_base::OutOfMemory;

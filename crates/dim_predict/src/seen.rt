@@ -1,5 +1,5 @@
 //! Which pairs of stacks have come.
-ghost use Rattle.std.specs.Prelude.{◌≡◌, ◌<◌, ◌≤◌, ◌*◌, ◌||◌, ℕ, not, true, false, IfOk, IfSome, length, max, min};
+ghost use Rattle.std.specs.Prelude.{◌≡◌, ◌<◌, ◌≤◌, ◌*◌, ◌||◌, ℕ, not, true, false, IfOk, IfSome, length};
 ghost use Rattle.dim_predict.specs.Numbered.{is_at};
 ghost use Rattle.dim_predict.specs.Pairs.{has_come, pair_slot};
 

@@ -1,5 +1,5 @@
 //! The places of a program that stand for places of the source.
-ghost use Rattle.std.specs.Prelude.{◌≡◌, ◌<◌, ◌≤◌, ◌^◌, IsTrue, take};
+ghost use Rattle.std.specs.Prelude.{◌≡◌, ◌<◌, ◌^◌, IsTrue, take};
 ghost use Rattle.dim_transcribe.specs.Performs.{AreSingle, IsAt, StandFor, key_of};
 
 use crate::transcript::StandIn;

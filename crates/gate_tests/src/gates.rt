@@ -1,5 +1,5 @@
 //! Replies of the gate, row by row.
-ghost use Rattle.std.specs.Prelude.{◌≡◌, ◌≤◌, [], IsSome, IsTrue};
+ghost use Rattle.std.specs.Prelude.{◌≡◌, ◌≤◌, IsSome, IsTrue};
 ghost use Rattle.dim_events.specs.Watching.{IsPassOf};
 ghost use Rattle.dim_gate.specs.Gate.{constants};
 ghost use Rattle.dim_gate.specs.Answer.{MayGive};

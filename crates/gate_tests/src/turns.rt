@@ -1,5 +1,5 @@
 //! Callers of a gate who take turns, on one thread and on two.
-ghost use Rattle.std.specs.Prelude.{◌≡◌, ◌≤◌, ◌<◌, ◌+◌, [], length, vec_capacity};
+ghost use Rattle.std.specs.Prelude.{◌≡◌, ◌≤◌, ◌<◌, ◌+◌, [], vec_capacity};
 ghost use Rattle.dim_turn.specs.Passes.{start_of, IsPassOf};
 
 use crate::gates::{done, has, same};

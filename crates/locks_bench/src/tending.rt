@@ -1,5 +1,5 @@
 //! What the tender costs.
-ghost use Rattle.std.specs.Prelude.{◌≡◌, ◌≤◌, ◌<◌, ◌*◌, ◌+◌, ◌^◌, IfOk};
+ghost use Rattle.std.specs.Prelude.{◌≡◌, ◌≤◌, ◌<◌, ◌+◌, IfOk};
 ghost use Rattle.dim_mutex.specs.Views.{opening, AreCallersOf};
 
 use crate::signatures::Known;

@@ -1,6 +1,5 @@
 //! A history, judged by a plain program: each entry fits those before it, and each answer to a
 //! Request is what a search through all choices of edges finds.
-ghost use Rattle.std.specs.Prelude.{◌≡◌};
 
 use dim_base::Tid;
 use dim_cover::first_cover;

@@ -1,5 +1,5 @@
 //! From the text of a log to what is made of it.
-ghost use Rattle.std.specs.Prelude.{◌≡◌, ◌≤◌, ◌^◌, All, IfOk, Ok, length, map, vec_len};
+ghost use Rattle.std.specs.Prelude.{◌≡◌, ◌≤◌, ◌^◌, All, IfOk, Ok, length, vec_len};
 ghost use Rattle.dim_asm.specs.Assembling.{program_of};
 ghost use Rattle.dim_log.specs.Saying.{log_of};
 ghost use Rattle.dim_log.specs.Seen.{log_value};

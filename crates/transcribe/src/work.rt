@@ -1,6 +1,5 @@
 //! From the words to what is stored.
-ghost use Rattle.std.specs.Prelude.{IfOk, Option, List, ℕ};
-ghost use Rattle.dim_base.specs.Files.{Named};
+ghost use Rattle.std.specs.Prelude.{IfOk};
 ghost use Rattle.transcribe.specs.Made.{IsWorked, WhereTold};
 
 use crate::files::{fetch, store};

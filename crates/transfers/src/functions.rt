@@ -1,5 +1,4 @@
 //! The functions of the workers, by their names.
-ghost use Rattle.std.specs.Prelude.{◌≡◌, ◌≤◌, IfOk, length};
 
 use crate::refusal::Refusal;
 use dim_base::{OutOfMemory, Word};

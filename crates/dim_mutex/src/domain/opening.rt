@@ -1,5 +1,5 @@
 //! How a domain is opened.
-ghost use Rattle.std.specs.Prelude.{◌≡◌, ℕ, ◌+◌, ◌*◌, ◌<◌, ◌≤◌, ◌^◌, All, [], length, map, min, slice_get, vec_capacity, None, Some, IfErr, IfOk};
+ghost use Rattle.std.specs.Prelude.{◌≡◌, ℕ, ◌+◌, ◌*◌, ◌<◌, ◌≤◌, All, [], length, map, slice_get, vec_capacity, None, Some, IfErr, IfOk};
 ghost use Rattle.dim_gate.specs.Gate.{constants, first_gate};
 ghost use Rattle.dim_turn.specs.Passes.{seen_of};
 ghost use Rattle.dim_run.specs.Gates.{Owns, known, opened};

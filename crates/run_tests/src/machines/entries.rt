@@ -1,5 +1,4 @@
 //! The entries that the instructions about locks make, with their stacks.
-ghost use Rattle.std.specs.Prelude.{◌≤◌};
 
 use super::{done, program_of, script};
 use crate::fake::{Fake, Script};
