@@ -95,18 +95,18 @@ module _ (x : Inputs) (s : Settings) (k : ℕ) (made : KeptImmunized) where
     run = is.run_is last (sym count)
 
     known_are : made.run.catalogue.sigs ≡ known
-    known_are = run.known_are ∙ ap (grown (sigs_at x s last) s.depth) run.entries_are ∙ sym (next_is x s last)
+    known_are = run.run_is.known_are ∙ ap (grown (sigs_at x s last) s.depth) run.entries_are ∙ sym (next_is x s last)
 
     traceable : IsTraceable p (sigs_at x s last) s made.run.tables.entries
-    traceable = record { loaded = run.loaded; few_loaded = run.few_loaded; executes = run.executes; few = run.few }
+    traceable = record { loaded = run.loaded; few_loaded = run.few_loaded; executes = run.run_is.executes; few = run.run_is.few }
 
     value : value_of made.history ≡ history_at x s (suc last)
     value = ap (λ n. named n made.history.catalogue.sigs) is.names_are ∙ ap (named (names_of x)) (is.sigs_are ∙ ap (sigs_at x s) count)
 
     last_report : ran p made.run.outcome made.run.tables.entries (length made.run.catalogue.sigs) made.run.ends.items ≡ report_at x s last
     last_report =
-        ap (λ o. ran p o made.run.tables.entries (length made.run.catalogue.sigs) made.run.ends.items) run.outcome_is
-        ∙ ap (λ ends. ran p (outcome_of p made.run.tables.entries) made.run.tables.entries (length made.run.catalogue.sigs) ends) run.ends_are
+        ap (λ o. ran p o made.run.tables.entries (length made.run.catalogue.sigs) made.run.ends.items) run.run_is.outcome_is
+        ∙ ap (λ ends. ran p (outcome_of p made.run.tables.entries) made.run.tables.entries (length made.run.catalogue.sigs) ends) run.run_is.ends_are
         ∙ ap (λ (sigs : List Sig). ran p (outcome_of p made.run.tables.entries) made.run.tables.entries (length sigs) (ends_after p s made.run.tables.entries)) known_are
         ∙ ap (λ es. ran p (outcome_of p es) es (length known) (ends_after p s es)) run.entries_are
 
@@ -127,7 +127,7 @@ module _ (x : Inputs) (s : Settings) (k : ℕ) (made : KeptImmunized) where
     lawful law = record {
       attempts = subst (AreAttempts (names_of x) p s (loaded_of x) k) count is.attempts;
       lawful = record {
-        executes = subst (λ es. Executes (gate_of p (sigs_at x s last) s.depth) p s.fuel es) run.entries_are run.executes;
+        executes = subst (λ es. Executes (gate_of p (sigs_at x s last) s.depth) p s.fuel es) run.entries_are run.run_is.executes;
         immune = subst (λ es. IsImmune (sigs_at x s last) s.depth (past es)) run.entries_are run.immune;
         complete = subst (λ es. IsComplete (rules_of p (sigs_at x s last) s) (past es)) run.entries_are run.complete;
         loaded = is.read;
@@ -158,4 +158,4 @@ module _ (x : Inputs) (s : Settings) (k : ℕ) (made : KeptImmunized) where
 -- the totals of the last run
 pub last_totals : (p : Code) (loaded : List Sig) (s : Settings) (made : KeptImmunized) → 1 ≤ length made.lines.items
     → ((i : ℕ) → suc i ≡ length made.lines.items → IsKeptRun p (sigs_after p s loaded i) s made.run) → made.run.totals ≡ totals_of (map kind_of made.run.tables.entries)
-last_totals p loaded s made some run = (run (length made.lines.items - 1) (omega (arith, some))).totals_are
+last_totals p loaded s made some run = (run (length made.lines.items - 1) (omega (arith, some))).run_is.totals_are

@@ -38,71 +38,68 @@ fn group(alloc: Global, colour: u32) -> Result<String, AllocError>
     format!(in alloc; "<g class=\"l{colour}\"><title>")
 }
 
-/// What is drawn of a shape at a place, behind its title.
-fn drawn(
-    alloc: Global,
-    program: &Program,
-    trace: &KeptTrace,
-    frame: &Frame,
-    shapes: &[Shape],
-    place: u32,
-    shape: &Shape,
-) -> Result<String, AllocError>
-    ensures { IfOk result (λ text. string_bytes text ≡ codes "</title>" ++
-        drawn program.now frame.now shapes.now place shape.now (slice_get trace.now.entries place)) }
-{
-    let mut text = String::from_str(alloc, "</title>")?;
-    put_figure(&mut text, program, frame, place, shape)?;
-    put_references(&mut text, trace, frame, shapes, place, shape.row)?;
-    text.push_str("</g>\n")?;
-    Ok(text)
+/// What marks are drawn of: a trace of a program, with the shape of each entry, in a frame.
+#[derive(Drop)]
+struct Scene<'a> {
+    program: &'a Program,
+    names: &'a Names,
+    trace: &'a KeptTrace,
+    shapes: &'a [Shape],
+    frame: &'a Frame,
 }
 
-/// Appends a shape at a place, with the line of its entry.
-fn put_shown(
-    alloc: Global,
-    out: &mut Vec<u8>,
-    program: &Program,
-    names: &Names,
-    trace: &KeptTrace,
-    frame: &Frame,
-    shapes: &[Shape],
-    place: u32,
-    shape: &Shape,
-) -> Result<(), OutOfMemory>
-    ensures { OnOk result (out.new.items ≡ out.old.items
-        ++ shown program.now names.now frame.now shapes.now place shape.now
-        (slice_get trace.now.entries place)) }
-{
-    let opened = group(alloc, colour_of(shape.mark))?;
-    out.extend_from_slice(opened.as_bytes())?;
-    put_line_at(alloc, out, program, names, trace, place)?;
-    let rest = drawn(alloc, program, trace, frame, shapes, place, shape)?;
-    Ok(out.extend_from_slice(rest.as_bytes())?)
-}
+impl<'a> Scene<'a> {
+    /// What is drawn of a shape at a place, behind its title.
+    fn drawn(&self, alloc: Global, place: u32, shape: &Shape) -> Result<String, AllocError>
+        ensures { IfOk result (λ text. string_bytes text ≡ codes "</title>" ++
+            drawn self.now.program.now self.now.frame.now self.now.shapes.now place shape.now
+            (slice_get self.now.trace.now.entries place)) }
+    {
+        let mut text = String::from_str(alloc, "</title>")?;
+        put_figure(&mut text, self.program, self.frame, place, shape)?;
+        put_references(
+            &mut text,
+            self.trace,
+            self.frame,
+            self.shapes,
+            place,
+            shape.row,
+        )?;
+        text.push_str("</g>\n")?;
+        Ok(text)
+    }
 
-/// Appends the shape at a place, where it reaches into the range.
-fn put_mark(
-    alloc: Global,
-    out: &mut Vec<u8>,
-    program: &Program,
-    names: &Names,
-    trace: &KeptTrace,
-    frame: &Frame,
-    shapes: &[Shape],
-    place: u32,
-) -> Result<(), OutOfMemory>
-    ensures { OnOk result (out.new.items ≡ out.old.items
-        ++ mark_by program.now names.now frame.now shapes.now place
-        (slice_get shapes.now place) (slice_get trace.now.entries place)) }
-{
-    match shapes.get(place as usize) {
-        Some(shape) if frame.is_shown(place, shape) => {
-            put_shown(
-                alloc, out, program, names, trace, frame, shapes, place, shape,
-            )
+    /// Appends a shape at a place, with the line of its entry.
+    fn put_shown(
+        &self,
+        alloc: Global,
+        out: &mut Vec<u8>,
+        place: u32,
+        shape: &Shape,
+    ) -> Result<(), OutOfMemory>
+        ensures { OnOk result (out.new.items ≡ out.old.items
+            ++ shown self.now.program.now self.now.names.now self.now.frame.now self.now.shapes.now
+            place shape.now (slice_get self.now.trace.now.entries place)) }
+    {
+        let opened = group(alloc, colour_of(shape.mark))?;
+        out.extend_from_slice(opened.as_bytes())?;
+        put_line_at(alloc, out, self.program, self.names, self.trace, place)?;
+        let rest = self.drawn(alloc, place, shape)?;
+        Ok(out.extend_from_slice(rest.as_bytes())?)
+    }
+
+    /// Appends the shape at a place, where it reaches into the range.
+    fn put_mark(&self, alloc: Global, out: &mut Vec<u8>, place: u32) -> Result<(), OutOfMemory>
+        ensures { OnOk result (out.new.items ≡ out.old.items
+            ++ mark_by self.now.program.now self.now.names.now self.now.frame.now self.now.shapes.now
+            place (slice_get self.now.shapes.now place) (slice_get self.now.trace.now.entries place)) }
+    {
+        match self.shapes.get(place as usize) {
+            Some(shape) if self.frame.is_shown(place, shape) => {
+                self.put_shown(alloc, out, place, shape)
+            }
+            _ => Ok(()),
         }
-        _ => Ok(()),
     }
 }
 
@@ -158,9 +155,15 @@ fn picture_in(
         drawing.now.outcome drawing.now.shapes.items frame.now) }
 {
     let mut out = front(alloc, program, trace, drawing, frame)?.into_bytes();
-    let shapes = drawing.shapes.as_slice();
+    let scene = Scene {
+        program,
+        names,
+        trace,
+        shapes: drawing.shapes.as_slice(),
+        frame,
+    };
     for place in 0..frame.to() {
-        put_mark(alloc, &mut out, program, names, trace, frame, shapes, place)?;
+        scene.put_mark(alloc, &mut out, place)?;
     }
     out.extend_from_slice(back(alloc, program, frame)?.as_bytes())?;
     Ok(out)

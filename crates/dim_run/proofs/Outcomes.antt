@@ -4,18 +4,22 @@ use Rattle.std.specs.Prelude.{if◌then◌else◌, not}
 use Rattle.std.specs.List.{Contains}
 use Rattle.std.proofs.lemmas.Bool.{cases_lt, and_parts, and_from, false≢true}
 use Rattle.std.proofs.lemmas.List.Elements.{at_from_Contains}
+use Rattle.dim_asm.specs.Code.{Code, thread_count}
 use Rattle.dim_rag.specs.declared.entry.Edge.{Edge}
 use Rattle.dim_rag.specs.declared.entry.Entry.{Entry}
 use Rattle.dim_rag.specs.declared.entry.Mode.{Mode}
 use Rattle.dim_rag.specs.declared.entry.Mode.TheVariants.{Running, Allowed, Yielding, Ended}
-use Rattle.dim_rag.specs.History.{mode}
+use Rattle.dim_rag.specs.History.{past, mode}
 use Rattle.dim_rag.specs.Steps.{IsCycle, AreCycles, CyclesLaw, births}
+use Rattle.dim_rag.specs.Tables.{Replay}
 use Rattle.dim_rag.specs.Waits.{waits, WaitsLaw}
+use Rattle.dim_gate.specs.Gate.{Gate}
 use Rattle.dim_gate.specs.Settled.{HasEnded}
 use Rattle.dim_monitor.specs.Found.{cycles_of}
 use Rattle.dim_run.specs.declared.playing.Outcome.{Outcome}
 use Rattle.dim_run.specs.declared.playing.Outcome.TheVariants.{Finished, Deadlocked, Stalled}
-use Rattle.dim_run.specs.Run.{is_empty, is_ended, all_ended, has_cycle}
+use Rattle.dim_run.specs.Run.{is_empty, is_ended, all_ended, has_cycle, outcome_by, outcome_of}
+use Rattle.dim_run.specs.Settle.{IsTwin}
 use Rattle.dim_run.specs.Outcome.{HasCycle, HaveEnded, OutcomeLaw}
 
 -- a cycle stands where the search finds one
@@ -84,3 +88,9 @@ outcome_law cycles waits_law = record {
   where
     exact : (n : ℕ) (h : List Entry) → AreCycles (waits n h) (cycles_of n h)
     exact n h = (cycles (waits n h) n (waits_law n h)).0
+
+-- told from a monitor that has taken what the gate has, it is that of the entries
+pub outcome_at : (p : Code) (g : Gate) (m : Replay) (entries : List Entry) (o : Outcome) → IsTwin g m → g.threads ≡ thread_count p → entries ≡ g.entries → o ≡ outcome_by m.threads (past m.entries) → o ≡ outcome_of p entries
+outcome_at p g m entries o twin threads same told =
+    told ∙ ap (λ n. outcome_by n (past m.entries)) (twin.threads ∙ threads)
+    ∙ ap (λ (es : List Entry). outcome_by (thread_count p) (past es)) (twin.entries ∙ sym same)

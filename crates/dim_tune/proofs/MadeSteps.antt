@@ -67,7 +67,7 @@ module _ (names : List (List ℕ)) (p : Code) (s : Settings) (read : List Sig) w
           ∙ ap (attempts_of p s read) size_next;
       names_are = a.names_are ∙ k.names_are;
       sigs_are =
-          a.rest_is.known_are
+          a.rest_is.run_is.known_are
           ∙ ap (grown m.history.catalogue.sigs s.depth) entries
           ∙ ap (λ (x : List Sig). grown x s.depth (played p (sigs_after p s read (length m.lines.items)) s)) k.sigs_are
           ∙ sym (sigs_next p s read (length m.lines.items))

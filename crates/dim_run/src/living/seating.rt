@@ -1,6 +1,6 @@
 //! Machines take their seats and leave them, and passes are put into the seats and out again.
-ghost use Rattle.std.specs.Prelude.{◌≡◌, ◌≤◌, [], length, map, reverse, vec_capacity};
-ghost use Rattle.dim_run.specs.Seated.{machines_in};
+ghost use Rattle.std.specs.Prelude.{◌≡◌, ◌≤◌, [], length, map, vec_capacity};
+ghost use Rattle.dim_run.specs.Seated.{machines_in, passes_in};
 
 use crate::living::gate::Pass;
 use crate::living::seat::Seat;
@@ -13,7 +13,7 @@ pub(crate) fn take_seats(machines: &mut Vec<Machine>, passes: &mut Vec<Pass>, se
     requires empty { seats.old.items ≡ [] }
     requires room { length machines.old.items ≤ vec_capacity seats.old }
     ensures machines { machines_in seats.new.items ≡ machines.old.items }
-    ensures passes { map (λ s. s.pass) (reverse seats.new.items) ≡ passes.old.items }
+    ensures passes { passes_in seats.new.items ≡ passes.old.items }
     ensures empty { (machines.new.items ≡ []) × (passes.new.items ≡ []) }
     ensures room { (vec_capacity machines.new ≡ vec_capacity machines.old)
         × (vec_capacity passes.new ≡ vec_capacity passes.old)
@@ -37,7 +37,7 @@ pub(crate) fn leave_seats(
     requires room { (length seats.old.items ≤ vec_capacity machines.old)
         × (length seats.old.items ≤ vec_capacity passes.old) }
     ensures machines { machines.new.items ≡ machines_in seats.old.items }
-    ensures passes { passes.new.items ≡ map (λ s. s.pass) (reverse seats.old.items) }
+    ensures passes { passes.new.items ≡ passes_in seats.old.items }
     ensures empty { seats.new.items ≡ [] }
     ensures room { (vec_capacity machines.new ≡ vec_capacity machines.old)
         × (vec_capacity seats.new ≡ vec_capacity seats.old) }
@@ -54,8 +54,8 @@ pub(crate) fn leave_seats(
 pub(crate) fn exchange_passes(seats: &mut Vec<Seat>, passes: &mut Vec<Pass>)
     requires each { length seats.old.items ≡ length passes.old.items }
     ensures machines { machines_in seats.new.items ≡ machines_in seats.old.items }
-    ensures passes { map (λ s. s.pass) (reverse seats.new.items) ≡ passes.old.items }
-    ensures back { passes.new.items ≡ map (λ s. s.pass) (reverse seats.old.items) }
+    ensures passes { passes_in seats.new.items ≡ passes.old.items }
+    ensures back { passes.new.items ≡ passes_in seats.old.items }
 {
     passes.as_mut_slice().reverse();
     swap_passes(seats.as_mut_slice(), passes.as_mut_slice());

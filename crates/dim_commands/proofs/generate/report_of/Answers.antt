@@ -14,5 +14,5 @@ returns c =
     let is : IsPlayed x c.args.s.now made.names made.program loaded run.tables.entries =
     is_played x c.args.s.now made.names made.program loaded run.tables.entries (c.in_ok-made.ensures.made.names_is ∙ c.in_ok-both.ensures.names) (c.in_ok-made.ensures.made.program_is ∙ c.in_ok-both.ensures.program) c.in_ok-both.ensures.loaded c.in_ok-made.ensures.entries in
     subst (λ (z : Report). IfOk c.ran.result (λ (r : Report). r ≡ z))
-    (report_is x c.args.s.now made.names made.program loaded run.catalogue.sigs run.tables.entries run.outcome run.ends.items is whole.catalogue whole.outcome whole.ends)
+    (report_is x c.args.s.now made.names made.program loaded run.catalogue.sigs run.tables.entries run.outcome run.ends.items is whole.run_is.known_are whole.run_is.outcome_is whole.run_is.ends_are)
     c.ran.ensures

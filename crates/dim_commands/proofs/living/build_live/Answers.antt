@@ -13,15 +13,15 @@ returns g c =
     let output = c.in_ok-output.ensures in
     let is : IsRun x c.args.s.now made.names made.program loaded run.catalogue.sigs run.tables.entries run.outcome run.ends.items (g.H.House.count c.args.house.now) (g.H.House.count c.lived.new.house) =
     record {
-      known_are = whole.catalogue;
+      known_are = whole.run_is.known_are;
       read = c.in_ok-both.ensures.read;
       executes = whole.traceable.executes;
       immune = whole.immune;
       complete = whole.complete;
       again = output.again;
       trace_again = output.trace_again loaded whole.traceable;
-      outcome_is = whole.outcome;
-      ends_are = whole.ends;
+      outcome_is = whole.run_is.outcome_is;
+      ends_are = whole.run_is.ends_are;
       counted = c.in_ok-made.ensures.count;
     } in
     record {

@@ -5,7 +5,6 @@ use Rattle.dim_commands.proofs.playing.lived.Goals as goal
 pub returns-clause-made : goal.returns-clause-made
 returns-clause-made g c =
     let both = c.args.both in
-    let run = c.in_ok-run.ensures in
     record {
       program_is = refl;
       names_is = refl;
@@ -15,15 +14,8 @@ returns-clause-made g c =
             bound = c.requires.bound;
             named = c.law-2.ensures.named;
             near = c.requires.near;
-            traceable = record {
-              loaded = c.law-2.ensures.catalogue;
-              few_loaded = c.requires.few;
-              executes = run.executes;
-              few = run.room;
-            };
-            catalogue = run.catalogue;
-            ends = run.ends_by_entries;
-            outcome = run.outcome;
-            totals = run.totals;
+            catalogue = c.law-2.ensures.catalogue;
+            few = c.requires.few;
+            run_is = c.in_ok-run.ensures.run;
           };
     }

@@ -16,7 +16,7 @@ pub returns-clause-history : goal.returns-clause-history
 returns-clause-history c =
     let m = c.in_ok-made.made in
     c.in_ok-output.ensures.history
-    ∙ history_is (inputs_of c.args.inputs) c.args.s.now m.names m.program c.in_ok-both.both.history.catalogue.sigs m.run.catalogue.sigs m.run.tables.entries (played_is c) c.in_ok-made.ensures.made.whole.catalogue
+    ∙ history_is (inputs_of c.args.inputs) c.args.s.now m.names m.program c.in_ok-both.both.history.catalogue.sigs m.run.catalogue.sigs m.run.tables.entries (played_is c) c.in_ok-made.ensures.made.whole.run_is.known_are
 
 pub returns-clause-trace : goal.returns-clause-trace
 returns-clause-trace c =
@@ -28,12 +28,12 @@ returns-clause-report c =
     let m = c.in_ok-made.made in
     let whole = c.in_ok-made.ensures.made.whole in
     c.in_ok-output.ensures.report
-    ∙ report_is (inputs_of c.args.inputs) c.args.s.now m.names m.program c.in_ok-both.both.history.catalogue.sigs m.run.catalogue.sigs m.run.tables.entries m.run.outcome m.run.ends.items (played_is c) whole.catalogue whole.outcome whole.ends
+    ∙ report_is (inputs_of c.args.inputs) c.args.s.now m.names m.program c.in_ok-both.both.history.catalogue.sigs m.run.catalogue.sigs m.run.tables.entries m.run.outcome m.run.ends.items (played_is c) whole.run_is.known_are whole.run_is.outcome_is whole.run_is.ends_are
 
 pub returns-clause-lawful : goal.returns-clause-lawful
 returns-clause-lawful c =
     let m = c.in_ok-made.made in
     let loaded = c.in_ok-both.both.history.catalogue.sigs in
     let whole = c.in_ok-made.ensures.made.whole in
-    lawful_is (inputs_of c.args.inputs) c.args.s.now m.names m.program loaded m.run.catalogue.sigs m.run.tables.entries (played_is c) whole.catalogue c.in_ok-both.ensures.read whole.traceable.executes whole.immune whole.complete c.in_ok-output.ensures.again
+    lawful_is (inputs_of c.args.inputs) c.args.s.now m.names m.program loaded m.run.catalogue.sigs m.run.tables.entries (played_is c) whole.run_is.known_are c.in_ok-both.ensures.read whole.traceable.executes whole.immune whole.complete c.in_ok-output.ensures.again
     (c.in_ok-output.ensures.trace_again loaded whole.traceable)

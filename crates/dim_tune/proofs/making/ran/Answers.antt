@@ -26,14 +26,9 @@ is_run c =
       loaded = subst IsCatalogue (sym (same c)) c.law-2.ensures.catalogue;
       few_loaded = subst (λ (x : List Sig). length x ≤ 4080) (sym (same c)) c.requires.few;
       entries_are = e.entries;
-      known_are = e.catalogue;
-      ends_are = e.ends_by_entries;
-      outcome_is = e.outcome;
-      totals_are = e.totals;
-      executes = e.executes;
-      immune = c.immune_law.ensures (gate_of p sigs s.depth) (past entries) e.executes.legal;
-      complete = c.complete_law.ensures (rules_of p sigs s) entries e.executes;
-      few = e.room;
+      run_is = e.run;
+      immune = c.immune_law.ensures (gate_of p sigs s.depth) (past entries) e.run.executes.legal;
+      complete = c.complete_law.ensures (rules_of p sigs s) entries e.run.executes;
     })
 
 pub returns-clause-run : goal.returns-clause-run
@@ -41,7 +36,7 @@ returns-clause-run c = is_run c
 
 pub returns-clause-learnt : goal.returns-clause-learnt
 returns-clause-learnt c =
-    ap (λ (x : List Sig). length x) (is_run c).known_are
+    ap (λ (x : List Sig). length x) (is_run c).run_is.known_are
     ∙ learnt_count c.grown_law.ensures c.known_law.ensures c.args.history.now.catalogue.sigs c.args.s.now.depth c.in_ok-run.run'.tables.entries
 
 pub returns-clause-spelled : goal.returns-clause-spelled
@@ -49,5 +44,5 @@ returns-clause-spelled c =
     let names = c.args.history.now.names in
     let sigs = c.args.history.now.catalogue.sigs in
     let r = is_run c in
-    let known = c.spelled_law.ensures (rules_of c.args.program.now sigs c.args.s.now) names c.in_ok-run.run'.tables.entries c.law.ensures c.requires.bound (spelled_of names sigs c.law-2.ensures.named c.requires.near) r.executes in
-    subst (AreSpelled names) (sym r.known_are) known
+    let known = c.spelled_law.ensures (rules_of c.args.program.now sigs c.args.s.now) names c.in_ok-run.run'.tables.entries c.law.ensures c.requires.bound (spelled_of names sigs c.law-2.ensures.named c.requires.near) r.run_is.executes in
+    subst (AreSpelled names) (sym r.run_is.known_are) known
