@@ -38,13 +38,13 @@ fn group(alloc: Global, colour: u32) -> Result<String, AllocError>
     format!(in alloc; "<g class=\"l{colour}\"><title>")
 }
 
-/// What marks are drawn of: a trace of a program, with the shape of each entry, in a frame.
+/// What a picture is drawn of: a trace of a program, with what each entry is, in a frame.
 #[derive(Drop)]
 struct Scene<'a> {
     program: &'a Program,
     names: &'a Names,
     trace: &'a KeptTrace,
-    shapes: &'a [Shape],
+    drawing: &'a Drawing,
     frame: &'a Frame,
 }
 
@@ -52,19 +52,13 @@ impl<'a> Scene<'a> {
     /// What is drawn of a shape at a place, behind its title.
     fn drawn(&self, alloc: Global, place: u32, shape: &Shape) -> Result<String, AllocError>
         ensures { IfOk result (λ text. string_bytes text ≡ codes "</title>" ++
-            drawn self.now.program.now self.now.frame.now self.now.shapes.now place shape.now
-            (slice_get self.now.trace.now.entries place)) }
+            drawn self.now.program.now self.now.frame.now self.now.drawing.now.shapes.items
+            place shape.now (slice_get self.now.trace.now.entries place)) }
     {
+        let shapes = self.drawing.shapes.as_slice();
         let mut text = String::from_str(alloc, "</title>")?;
         put_figure(&mut text, self.program, self.frame, place, shape)?;
-        put_references(
-            &mut text,
-            self.trace,
-            self.frame,
-            self.shapes,
-            place,
-            shape.row,
-        )?;
+        put_references(&mut text, self.trace, self.frame, shapes, place, shape.row)?;
         text.push_str("</g>\n")?;
         Ok(text)
     }
@@ -78,8 +72,9 @@ impl<'a> Scene<'a> {
         shape: &Shape,
     ) -> Result<(), OutOfMemory>
         ensures { OnOk result (out.new.items ≡ out.old.items
-            ++ shown self.now.program.now self.now.names.now self.now.frame.now self.now.shapes.now
-            place shape.now (slice_get self.now.trace.now.entries place)) }
+            ++ shown self.now.program.now self.now.names.now self.now.frame.now
+            self.now.drawing.now.shapes.items place shape.now
+            (slice_get self.now.trace.now.entries place)) }
     {
         let opened = group(alloc, colour_of(shape.mark))?;
         out.extend_from_slice(opened.as_bytes())?;
@@ -91,82 +86,66 @@ impl<'a> Scene<'a> {
     /// Appends the shape at a place, where it reaches into the range.
     fn put_mark(&self, alloc: Global, out: &mut Vec<u8>, place: u32) -> Result<(), OutOfMemory>
         ensures { OnOk result (out.new.items ≡ out.old.items
-            ++ mark_by self.now.program.now self.now.names.now self.now.frame.now self.now.shapes.now
-            place (slice_get self.now.shapes.now place) (slice_get self.now.trace.now.entries place)) }
+            ++ mark_by self.now.program.now self.now.names.now self.now.frame.now
+            self.now.drawing.now.shapes.items place
+            (slice_get self.now.drawing.now.shapes.items place)
+            (slice_get self.now.trace.now.entries place)) }
     {
-        match self.shapes.get(place as usize) {
+        match self.drawing.shapes.get(place as usize) {
             Some(shape) if self.frame.is_shown(place, shape) => {
                 self.put_shown(alloc, out, place, shape)
             }
             _ => Ok(()),
         }
     }
-}
 
-/// What stands before the marks.
-fn front(
-    alloc: Global,
-    program: &Program,
-    trace: &KeptTrace,
-    drawing: &Drawing,
-    frame: &Frame,
-) -> Result<String, AllocError>
-    ensures { IfOk result (λ text. string_bytes text
-        ≡ front program.now frame.now drawing.now.outcome (length trace.now.entries)
-        trace.now.fuel trace.now.depth) }
-{
-    let mut text = String::new(alloc);
-    put_head(&mut text, frame, program.locks())?;
-    let outcome = drawing.outcome;
-    put_heading(
-        &mut text,
-        frame,
-        outcome,
-        trace.len(),
-        trace.fuel(),
-        trace.depth(),
-    )?;
-    put_ticks(&mut text, frame)?;
-    put_lanes(&mut text, program, frame)?;
-    Ok(text)
-}
-
-/// What stands behind the marks.
-fn back(alloc: Global, program: &Program, frame: &Frame) -> Result<String, AllocError>
-    ensures { IfOk result (λ text. string_bytes text ≡ back program.now frame.now) }
-{
-    let mut text = String::new(alloc);
-    put_lock_keys(&mut text, program, frame)?;
-    put_foot(&mut text, frame, program.locks())?;
-    Ok(text)
-}
-
-/// The picture in a frame.
-fn picture_in(
-    alloc: Global,
-    program: &Program,
-    names: &Names,
-    trace: &KeptTrace,
-    drawing: &Drawing,
-    frame: &Frame,
-) -> Result<Vec<u8>, OutOfMemory>
-    ensures { IfOk result (λ out. out.items
-        ≡ picture_in program.now names.now trace.now.fuel trace.now.depth trace.now.entries
-        drawing.now.outcome drawing.now.shapes.items frame.now) }
-{
-    let mut out = front(alloc, program, trace, drawing, frame)?.into_bytes();
-    let scene = Scene {
-        program,
-        names,
-        trace,
-        shapes: drawing.shapes.as_slice(),
-        frame,
-    };
-    for place in 0..frame.to() {
-        scene.put_mark(alloc, &mut out, place)?;
+    /// What stands before the marks.
+    fn front(&self, alloc: Global) -> Result<String, AllocError>
+        ensures { IfOk result (λ text. string_bytes text
+            ≡ front self.now.program.now self.now.frame.now self.now.drawing.now.outcome
+            (length self.now.trace.now.entries) self.now.trace.now.fuel self.now.trace.now.depth) }
+    {
+        let mut text = String::new(alloc);
+        put_head(&mut text, self.frame, self.program.locks())?;
+        let trace = self.trace;
+        put_heading(
+            &mut text,
+            self.frame,
+            self.drawing.outcome,
+            trace.len(),
+            trace.fuel(),
+            trace.depth(),
+        )?;
+        put_ticks(&mut text, self.frame)?;
+        put_lanes(&mut text, self.program, self.frame)?;
+        Ok(text)
     }
-    out.extend_from_slice(back(alloc, program, frame)?.as_bytes())?;
-    Ok(out)
+
+    /// What stands behind the marks.
+    fn back(&self, alloc: Global) -> Result<String, AllocError>
+        ensures { IfOk result (λ text. string_bytes text
+            ≡ back self.now.program.now self.now.frame.now) }
+    {
+        let mut text = String::new(alloc);
+        put_lock_keys(&mut text, self.program, self.frame)?;
+        put_foot(&mut text, self.frame, self.program.locks())?;
+        Ok(text)
+    }
+
+    /// The picture.
+    fn picture(&self, alloc: Global) -> Result<Vec<u8>, OutOfMemory>
+        ensures { IfOk result (λ out. out.items
+            ≡ picture_in self.now.program.now self.now.names.now self.now.trace.now.fuel
+            self.now.trace.now.depth self.now.trace.now.entries self.now.drawing.now.outcome
+            self.now.drawing.now.shapes.items self.now.frame.now) }
+    {
+        let mut out = self.front(alloc)?.into_bytes();
+        for place in 0..self.frame.to() {
+            self.put_mark(alloc, &mut out, place)?;
+        }
+        out.extend_from_slice(self.back(alloc)?.as_bytes())?;
+        Ok(out)
+    }
 }
 
 /// The text of the picture of a trace's entries from a place on and before another, as SVG. docs/
@@ -185,8 +164,19 @@ pub fn picture_text(
         ≡ picture_text program.now names.now trace.now.fuel trace.now.depth trace.now.entries
         drawing.now.outcome drawing.now.shapes.items from to) }
 {
-    let shapes = drawing.shapes.as_slice();
-    let frame = frame_of(alloc, program.threads(), shapes, from, to)?;
-    let out = picture_in(alloc, program, names, trace, drawing, &frame)?;
-    Ok(Bytes::from_vec(out))
+    let frame = frame_of(
+        alloc,
+        program.threads(),
+        drawing.shapes.as_slice(),
+        from,
+        to,
+    )?;
+    let scene = Scene {
+        program,
+        names,
+        trace,
+        drawing,
+        frame: &frame,
+    };
+    Ok(Bytes::from_vec(scene.picture(alloc)?))
 }
